@@ -1,0 +1,12 @@
+pub mod Faults
+pub mod Meaning
+pub mod Cuts
+pub mod Answers
+pub mod Laws
+pub mod Surfaces
+pub mod Each
+pub mod Queues
+pub mod Backlogs
+pub mod Kinds
+pub mod Formed
+pub mod Pace

@@ -1,0 +1,13 @@
+// Drives of 512-byte records: what one means, what its calls promise, and three kinds.
+pub mod asking;
+pub mod backlog;
+pub mod cabinet;
+pub mod card;
+pub mod device;
+pub mod fault;
+pub mod kinds;
+pub mod lab;
+pub mod laws;
+pub mod queue;
+pub mod queued;
+pub mod surface;

@@ -1,0 +1,2 @@
+pub mod New-laws
+pub mod Possible

@@ -1,0 +1,13 @@
+pub mod Volume
+pub mod New
+pub mod Memory
+pub mod Outcomes
+pub mod Shown
+pub mod Slots
+pub mod Stock
+pub mod Plans
+pub mod Mending
+pub mod Calls
+pub mod Histories
+pub mod Promises
+pub mod Worked

@@ -1,0 +1,4 @@
+// What a volume is and does, as definitions, and the laws that bind it.
+pub mod memory;
+pub mod new;
+pub mod worked;

@@ -1,0 +1,10 @@
+pub mod Word-laws
+pub mod Control-laws
+pub mod Layout-laws
+pub mod Label-laws
+pub mod Digit-laws
+pub mod Bit-laws
+pub mod Count-laws
+pub mod Section-laws
+pub mod Entry-laws
+pub mod Address-laws

@@ -1,0 +1,7 @@
+pub mod Words
+pub mod Control
+pub mod Regions
+pub mod Labels
+pub mod Sections
+pub mod Entries
+pub mod Laws

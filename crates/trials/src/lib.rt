@@ -1,0 +1,3 @@
+// Runs of the other crates, as tests.
+#[cfg(test)]
+mod drives;
