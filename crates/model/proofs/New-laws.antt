@@ -62,7 +62,7 @@ pub written-append : (xs ys : List Write) (m : Meaning) → written (xs ++ ys) m
 written-append [] ys m = refl
 written-append (w ∷ xs) ys m = written-append xs ys (calm (posted m (w .at) (w .bytes)))
 
-counting-push : (a n : ℕ) → counting a (n + 1) ≡ counting a n ++ ((a + n) ∷ [])
+pub counting-push : (a n : ℕ) → counting a (n + 1) ≡ counting a n ++ ((a + n) ∷ [])
 counting-push a zero = let e : a ≡ a + 0 = omega arith in ap (λ x. x ∷ []) e
 counting-push a (suc n) =
     let e : suc n + 1 ≡ suc (n + 1) = omega arith in

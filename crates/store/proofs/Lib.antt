@@ -1,1 +1,3 @@
 pub mod Accepted
+pub mod Read-laws
+pub mod Survey-laws

@@ -9,6 +9,12 @@ ghost use Rattle.drive.specs.Faults.{said};
 ghost use Rattle.drive.specs.Meaning.{size};
 ghost use Rattle.model.specs.New.{entry-write, section-write, label-write, writes-of, new-writes, written, make-answer, after-make};
 ghost use Rattle.record.specs.Regions.{in-limits};
+use crate::layout::FIRST_ENTRY;
+use crate::layout::FIRST_SECTION;
+use crate::layout::LABEL;
+use crate::layout::LABEL_COPY;
+use crate::layout::SECTIONS;
+use crate::layout::SUM_START;
 use crate::through::complete_all;
 use crate::through::write_next;
 use crate::work::Work;
@@ -22,19 +28,6 @@ use record::label::LabelState;
 use record::region::Span;
 use record::region::in_limits;
 use record::section::Section;
-
-// The number that every check sum starts at.
-const SUM_START: u32 = 0;
-
-const LABEL: u16 = 0;
-
-const FIRST_SECTION: u16 = 1;
-
-const SECTIONS: u8 = 3;
-
-const LABEL_COPY: u16 = 7;
-
-const FIRST_ENTRY: u16 = 8;
 
 // The writes of a new volume besides its entries: the map, the label and its copy.
 const FIXED_WRITES: u32 = 5;
