@@ -1,6 +1,8 @@
 // Why a call is refused: the first question that was answered no, and the record it concerns.
 ghost use mathlib.Core.Path.{_≡_};
 ghost use Rattle.drive.specs.Faults.{number-of, layer-of, no-record};
+use std::error::Error;
+use std::fmt;
 
 // Every question that a call of a drive or of a volume can put, under its number.
 #[derive(Clone, Copy, PartialEq, Eq, Debug)]
@@ -102,3 +104,18 @@ impl Fault {
         }
     }
 }
+
+// For a person: the number, the layer, and the record where there is one.
+pub impl fmt::Display for Fault as FaultDisplay {
+    fn fmt<W: fmt::Write>(&self, f: &mut fmt::Formatter<W>) -> fmt::Result {
+        let number = self.number();
+        let layer = self.layer();
+        let address = self.address;
+        if address == NO_RECORD {
+            return write!(f, "refused by question {number} of layer {layer}");
+        }
+        write!(f, "refused by question {number} of layer {layer}, record {address}")
+    }
+}
+
+pub impl Error for Fault as FaultError {}
