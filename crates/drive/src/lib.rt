@@ -1,6 +1,6 @@
 // Drives of 512-byte records: what one means, what its calls promise, and three kinds.
-pub mod asking;
-pub mod backlog;
+mod asking;
+mod backlog;
 pub mod cabinet;
 pub mod card;
 pub mod device;
@@ -8,6 +8,6 @@ pub mod fault;
 pub mod kinds;
 pub mod lab;
 pub mod laws;
-pub mod queue;
-pub mod queued;
-pub mod surface;
+mod queue;
+mod queued;
+mod surface;

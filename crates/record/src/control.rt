@@ -27,7 +27,7 @@ pub fn check_word(page: &[u8], start: u32) -> u32
 }
 
 // Writes the check word.
-pub fn seal(page: &mut [u8], start: u32)
+pub(crate) fn seal(page: &mut [u8], start: u32)
     requires { ⌜ 8 ≤ length (now page) ⌝ }
     ensures { λ _. ⌜ now (page .exit) ≡ put (now (page .entry)) 1 (check start (words (now (page .entry)))) ⌝ }
 {
@@ -36,7 +36,7 @@ pub fn seal(page: &mut [u8], start: u32)
 }
 
 // The page is a record with this id and the right check word.
-pub fn is_whole(page: &[u8], start: u32, id: u32) -> bool
+pub(crate) fn is_whole(page: &[u8], start: u32, id: u32) -> bool
     ensures { λ r. ⌜ r ≡ whole start id (now (page .entry)) ⌝ }
 {
     page.len() == RECORD

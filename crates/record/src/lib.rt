@@ -5,4 +5,4 @@ pub mod label;
 pub mod laws;
 pub mod region;
 pub mod section;
-pub mod words;
+mod words;
