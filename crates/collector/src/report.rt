@@ -64,7 +64,11 @@ impl<'a> Report<'a> {
     }
 }
 
-fn show_section<W: fmt::Write>(f: &mut fmt::Formatter<W>, k: usize, figures: SectionFigures) -> fmt::Result {
+fn show_section<W: fmt::Write>(
+    f: &mut fmt::Formatter<W>,
+    k: usize,
+    figures: SectionFigures,
+) -> fmt::Result {
     let covered = figures.covered;
     let free = figures.free;
     if !figures.sound {

@@ -114,7 +114,10 @@ pub impl fmt::Display for Fault as FaultDisplay {
         if address == NO_RECORD {
             return write!(f, "refused by question {number} of layer {layer}");
         }
-        write!(f, "refused by question {number} of layer {layer}, record {address}")
+        write!(
+            f,
+            "refused by question {number} of layer {layer}, record {address}"
+        )
     }
 }
 

@@ -1,2 +1,11 @@
 pub mod New-laws
 pub mod Possible
+pub mod Read-back
+pub mod Lists
+pub mod Ledger
+pub mod Parts
+pub mod Meets
+pub mod File-calls
+pub mod Map-calls
+pub mod Salvage-calls
+pub mod Reached-laws

@@ -10,4 +10,5 @@ pub mod Mending
 pub mod Calls
 pub mod Histories
 pub mod Promises
+pub mod Names-law
 pub mod Worked

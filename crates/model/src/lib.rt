@@ -1,4 +1,5 @@
 // What a volume is and does, as definitions, and the laws that bind it.
 pub mod memory;
+pub mod names_law;
 pub mod new;
 pub mod worked;

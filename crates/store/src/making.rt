@@ -63,7 +63,12 @@ fn ask_make<D: Drive>(drive: &D, id: u32, entries: u16, length: usize) -> Result
 }
 
 // Posts exactly the writes of a new volume, one after the other, each completed before the next.
-fn write_volume<D: Drive>(drive: &mut D, id: u32, entries: u16, page: &mut [u8]) -> Result<(), Fault>
+fn write_volume<D: Drive>(
+    drive: &mut D,
+    id: u32,
+    entries: u16,
+    page: &mut [u8],
+) -> Result<(), Fault>
     requires paged { ⌜ length (now page) ≡ 512 ⌝ }
     requires sized { ⌜ in-limits id entries (size (meaning (now drive))) ≡ true ⌝ }
     requires quiet { ⌜ meaning (now drive) .outstanding ≡ [] ⌝ }
@@ -78,7 +83,12 @@ fn write_volume<D: Drive>(drive: &mut D, id: u32, entries: u16, page: &mut [u8])
 }
 
 // Writes the free entries.
-fn write_entries<D: Drive>(drive: &mut D, id: u32, entries: u16, page: &mut [u8]) -> Result<(), Fault>
+fn write_entries<D: Drive>(
+    drive: &mut D,
+    id: u32,
+    entries: u16,
+    page: &mut [u8],
+) -> Result<(), Fault>
     requires paged { ⌜ length (now page) ≡ 512 ⌝ }
     requires inside { ⌜ 8 + entries ≤ size (meaning (now drive)) ⌝ }
     requires small { ⌜ entries ≤ 3968 ⌝ }
@@ -95,7 +105,13 @@ fn write_entries<D: Drive>(drive: &mut D, id: u32, entries: u16, page: &mut [u8]
 }
 
 // Writes the map, with the whole page region free.
-fn write_map<D: Drive>(drive: &mut D, id: u32, entries: u16, records: u16, page: &mut [u8]) -> Result<(), Fault>
+fn write_map<D: Drive>(
+    drive: &mut D,
+    id: u32,
+    entries: u16,
+    records: u16,
+    page: &mut [u8],
+) -> Result<(), Fault>
     requires paged { ⌜ length (now page) ≡ 512 ⌝ }
     requires inside { ⌜ 8 ≤ size (meaning (now drive)) ⌝ }
     requires quiet { ⌜ meaning (now drive) .outstanding ≡ [] ⌝ }
@@ -112,7 +128,13 @@ fn write_map<D: Drive>(drive: &mut D, id: u32, entries: u16, records: u16, page:
 }
 
 // Writes the label's copy and the label.
-fn write_labels<D: Drive>(drive: &mut D, id: u32, entries: u16, records: u16, page: &mut [u8]) -> Result<(), Fault>
+fn write_labels<D: Drive>(
+    drive: &mut D,
+    id: u32,
+    entries: u16,
+    records: u16,
+    page: &mut [u8],
+) -> Result<(), Fault>
     requires paged { ⌜ length (now page) ≡ 512 ⌝ }
     requires inside { ⌜ 8 ≤ size (meaning (now drive)) ⌝ }
     requires quiet { ⌜ meaning (now drive) .outstanding ≡ [] ⌝ }

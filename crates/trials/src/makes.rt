@@ -45,10 +45,7 @@ fn make_refuses_with_1_16_and_25_and_zeroes_the_page() -> Result<(), Fail> {
         make(&mut card, 1, 3, &mut page),
         Err(Question::Limits.refused()),
     )?;
-    check_eq(
-        make(&mut card, 1, 2, &mut page),
-        Err(Question::Life.at(8)),
-    )?;
+    check_eq(make(&mut card, 1, 2, &mut page), Err(Question::Life.at(8)))?;
     check_eq(card.left(), 6)
 }
 
@@ -66,8 +63,5 @@ fn a_volume_that_was_made_is_seen() -> Result<(), Fail> {
     check_eq(seen.label.entries, 2)?;
     check_eq(seen.free_entries, 2)?;
     check_eq(seen.sections[0].free, 1)?;
-    check_eq(
-        card.read(10, &mut page),
-        Err(Question::Readable.at(10)),
-    )
+    check_eq(card.read(10, &mut page), Err(Question::Readable.at(10)))
 }

@@ -27,7 +27,12 @@ impl Notes {
 }
 
 // Makes a volume, and gives the addresses that were posted to.
-pub fn noted_make<D: Drive + Drop>(drive: D, id: u32, entries: u16, page: &mut [u8]) -> Result<Notes, Fault> {
+pub fn noted_make<D: Drive + Drop>(
+    drive: D,
+    id: u32,
+    entries: u16,
+    page: &mut [u8],
+) -> Result<Notes, Fault> {
     let notes = Notes {
         addresses: [0; 16],
         count: 0,
