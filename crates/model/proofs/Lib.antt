@@ -9,3 +9,6 @@ pub mod File-calls
 pub mod Map-calls
 pub mod Salvage-calls
 pub mod Reached-laws
+pub mod Plan-laws
+pub mod Runs-laws
+pub mod Runs-worked

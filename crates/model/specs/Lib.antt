@@ -11,4 +11,6 @@ pub mod Calls
 pub mod Histories
 pub mod Promises
 pub mod Names-law
+pub mod Plan-laws
 pub mod Worked
+pub mod Runs

@@ -2,4 +2,6 @@
 pub mod memory;
 pub mod names_law;
 pub mod new;
+pub mod plan_laws;
+pub mod runs;
 pub mod worked;
