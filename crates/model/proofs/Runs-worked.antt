@@ -21,9 +21,29 @@ use Rattle.model.specs.Mending.{salvage-plan}
 use Rattle.model.specs.Calls.{plan}
 use Rattle.model.specs.Histories.{cut, attach, Reached, Placed}
 use Rattle.model.specs.Promises.{Names, Free}
-use Rattle.model.specs.Runs.{cabinet, Act, power-cut, as-settled, fresh, only-slot-0, run, told, after-act, told-of-act, history, first-page, up-to-place, up-to-cut, up-to-salvaged, up-to-named, Fitting-run, The-first-balance-takes-16, The-only-page-is-granted-once, A-doubly-held-page-is-kept-by-the-lower-entry, The-worked-run-comes-out, The-worked-run-is-a-history}
-use Rattle.model.specs.Worked.{bare}
+use Rattle.model.specs.Runs.{cabinet, Act, power-cut, as-settled, fresh, only-slot-0, run, told, after-act, told-of-act, history, first-page, up-to-place, up-to-cut, up-to-salvaged, up-to-named, Fitting-run, The-first-balance-takes-16, The-only-page-is-granted-once, A-doubly-held-page-is-kept-by-the-lower-entry, The-worked-run-comes-out, The-worked-run-is-a-history, All-worked-examples-come-out}
+use Rattle.model.specs.Worked.{bare, The-worked-values-come-out}
 use Rattle.model.proofs.Runs-laws.{image, every-run-is-a-history}
+
+pub the-worked-values-come-out : The-worked-values-come-out
+unfolding free-count bits-of section-body
+the-worked-values-come-out =
+    record {
+      check-of-word-0 = refl;
+      check-of-word-127 = refl;
+      section-0-covers = refl;
+      section-0-counts = refl;
+      section-0-frees = refl;
+      section-1-covers = refl;
+      section-1-counts = refl;
+      taking-16-counts = refl;
+      taking-16-leaves = refl;
+      taking-16-leaves-next = refl;
+      records-10 = refl;
+      records-11 = refl;
+      records-11904 = refl;
+      records-11905 = refl;
+    }
 
 pub the-first-balance-takes-16 : The-first-balance-takes-16
 unfolding run told after-act told-of-act plan open-plan balance-plan ask need if-accepted new-volume control free-count bits-of section-body section-record all-pass label-body label-record entry-body entry-record free-from
@@ -108,4 +128,14 @@ the-worked-run-is-a-history =
       old = spoiled-still ∙ sym spoiled-at-first;
       named = named;
       freed = freed;
+    }
+
+pub all-worked-examples-come-out : All-worked-examples-come-out
+all-worked-examples-come-out =
+    record {
+      values = the-worked-values-come-out;
+      first-balance = the-first-balance-takes-16;
+      only-page = the-only-page-is-granted-once;
+      doubly-held-page = a-doubly-held-page-is-kept-by-the-lower-entry;
+      whole-run = the-worked-run-comes-out;
     }

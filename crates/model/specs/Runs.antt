@@ -19,7 +19,7 @@ use Rattle.model.specs.Plans.{joined}
 use Rattle.model.specs.Calls.{Call, open′, create, withdraw, place, update, balance, salvage, plan, Volume, with-write}
 use Rattle.model.specs.Histories.{called, cut, History, Fitting, attach, Reached, Placed}
 use Rattle.model.specs.Promises.{Names, Free}
-use Rattle.model.specs.Worked.{bare}
+use Rattle.model.specs.Worked.{bare, The-worked-values-come-out}
 
 -- the rules of a cabinet drive
 abbrev pub cabinet : Rules
@@ -177,6 +177,14 @@ pub record The-worked-run-comes-out : Type 0 where
   pub place-posts : run up-to-place (fresh 20) .drive .outstanding ≡ record { at = 10; bytes = first-page } ∷ []
   pub place-shows : shown (run up-to-place (fresh 20) .drive) 10 ≡ readable first-page
   pub cut-leaves : settled-at (run up-to-cut (fresh 20) .drive) 10 ≡ spoiled
+
+-- every worked example, of the layouts and of the plans
+pub record All-worked-examples-come-out : Type 0 where
+  pub values : The-worked-values-come-out
+  pub first-balance : The-first-balance-takes-16
+  pub only-page : The-only-page-is-granted-once
+  pub doubly-held-page : A-doubly-held-page-is-kept-by-the-lower-entry
+  pub whole-run : The-worked-run-comes-out
 
 -- the run up to the place, with the cut, salvaged, and with the page named, in the sense of the law: the history says
 -- what was placed, the cut leaves it as it was, and the page is free once salvaged, or named

@@ -4,4 +4,3 @@ pub mod names_law;
 pub mod new;
 pub mod plan_laws;
 pub mod runs;
-pub mod worked;
