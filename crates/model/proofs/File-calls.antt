@@ -51,11 +51,11 @@ not-shut Closing h = refl
 
 -- ---- what the questions tell
 
-address-is : (o : Option ℕ) (a : ℕ) → is-address o a ≡ true → o ≡ Some a
+pub address-is : (o : Option ℕ) (a : ℕ) → is-address o a ≡ true → o ≡ Some a
 address-is None a h = absurd (true≢false (sym h))
 address-is (Some b) a h = ap Some (eqb-true b a h)
 
-slot-found : {Y : Type 0} (f : File) (p : ℕ) (k : Slot → Option Y) (y : Y) → and-then (slot-of f p) k ≡ Some y → k (getD (f .slots) p Empty) ≡ Some y
+pub slot-found : {Y : Type 0} (f : File) (p : ℕ) (k : Slot → Option Y) (y : Y) → and-then (slot-of f p) k ≡ Some y → k (getD (f .slots) p Empty) ≡ Some y
 slot-found {Y} f p k y h =
     let P : Bool → Type 0 = λ b. and-then (cond b (Some (getD (f .slots) p Empty)) None) k ≡ Some y in
     elim (cases-bool (ltb p 64)) [ inl e ↦ subst P e h | inr e ↦ absurd (none-not y (subst P e h)) ]
@@ -86,7 +86,7 @@ cleared-is (Live y) s′ h =
 cleared-is (Leaving y) s′ h = absurd (none-not s′ h)
 cleared-is (Left y) s′ h = absurd (none-not s′ h)
 
-wanted-is : (t : Entry → Bool) (o : Option Entry) (x : Entry) → entry-when t o ≡ Some x → o ≡ Some x
+pub wanted-is : (t : Entry → Bool) (o : Option Entry) (x : Entry) → entry-when t o ≡ Some x → o ≡ Some x
 wanted-is t None x h = h
 wanted-is t (Some y) x h =
     let P : Bool → Type 0 = λ b. cond b (Some y) None ≡ Some x in
@@ -148,7 +148,7 @@ module _ (d : Meaning) where
   updated-has (Leaving y) x h = h
   updated-has (Left y) x h = h
 
-  updated-slots : (o : Ledger) (e : ℕ) (ss : List Slot) → Slots o e ss → Slots o e (map (updated d) ss)
+  pub updated-slots : (o : Ledger) (e : ℕ) (ss : List Slot) → Slots o e ss → Slots o e (map (updated d) ss)
   updated-slots o e ss S p x h = S p x (updated-has (getD ss p Empty) x (rw (getD-mapped (updated d) ss p Empty) at h))
 
   updated-live : (s : Slot) → live-address (updated d s) ≡ on-entry (updated d s)
@@ -161,7 +161,7 @@ module _ (d : Meaning) where
   updated-live (Left y) = refl
 
   -- after an update an entry names just the Live addresses
-  all-updated : (ss : List Slot) → map (λ s. live-address (updated d s)) ss ≡ map on-entry (map (updated d) ss)
+  pub all-updated : (ss : List Slot) → map (λ s. live-address (updated d s)) ss ≡ map on-entry (map (updated d) ss)
   all-updated [] = refl
   all-updated (s ∷ ss) = cc (updated-live s, all-updated ss)
 
@@ -447,7 +447,7 @@ module _ (g : Shape) (d : Meaning) where
       (λ j f′ h same. I .files .alone j i f′ f h file same))
 
   -- an entry of the volume that no file holds
-  taken-is : (v : Memory) (o : Ledger) (e : ℕ) → is-open (v .phase) ≡ true → Inv g o d v → (ltb e (v .entries) && not (in-some-file (v .files) e)) ≡ true
+  pub taken-is : (v : Memory) (o : Ledger) (e : ℕ) → is-open (v .phase) ≡ true → Inv g o d v → (ltb e (v .entries) && not (in-some-file (v .files) e)) ≡ true
       → (e < g .entries) × ((j : ℕ) (f : File) → getD (v .files) j None ≡ Some f → f .entry ≡ e → ⊥)
   taken-is v o e work I h =
       let hs = and-parts (ltb e (v .entries)) (not (in-some-file (v .files) e)) h in

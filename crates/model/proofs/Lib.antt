@@ -9,6 +9,9 @@ pub mod File-calls
 pub mod Map-calls
 pub mod Salvage-calls
 pub mod Reached-laws
+pub mod Pages
+pub mod Page-calls
+pub mod Reached-pages
 pub mod Plan-laws
 pub mod Runs-laws
 pub mod Runs-worked

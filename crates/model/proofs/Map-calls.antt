@@ -70,7 +70,7 @@ section-on None r h =
     absurd (clash (bit none-free r) h off)
 section-on (Some s) r h = (s, refl, h)
 
-lowest-counted : (j : ℕ) (ns : List ℕ) (k : ℕ) → counting-free j ns ≡ Some k → k < j + length ns
+pub lowest-counted : (j : ℕ) (ns : List ℕ) (k : ℕ) → counting-free j ns ≡ Some k → k < j + length ns
 lowest-counted j [] k h = absurd (none-not k h)
 lowest-counted j (n ∷ ns) k h =
     let P : Bool → Type 0 = λ b. cond b (Some j) (counting-free (j + 1) ns) ≡ Some k in
@@ -221,7 +221,7 @@ module _ (g : Shape) (d : Meaning) where
       (tickets-handed o (v .tickets) gs in-service free (I .tickets) fr refl)
       (λ e p x. hand-kept o gs in-service free (at-slot e p) x fr (differ in-service (at-slot e p) refl)))
 
-  low-cover : (v : Memory) (o : Ledger) (x : ℕ) (xs : List ℕ) → v .service ≡ x ∷ xs → Inv g o d v → cover x < 3
+  pub low-cover : (v : Memory) (o : Ledger) (x : ℕ) (xs : List ℕ) → v .service ≡ x ∷ xs → Inv g o d v → cover x < 3
   low-cover v o x xs is I =
       let S : Holds o (x ∷ xs) in-service = rw is at (I .stock .served) in
       let r = not-lost g o d x in-service (I .drive) (S .mine x (omega (arith, one-same x x refl))) refl in

@@ -65,7 +65,7 @@ completed-good g d v k (o, I) =
     )
 
 -- memory is lost
-attached-good : (g : Shape) (o : Ledger) (d : Meaning) → On-drive g o d → Good g d attached
+pub attached-good : (g : Shape) (o : Ledger) (d : Meaning) → On-drive g o d → Good g d attached
 attached-good g o d D = (
   o,
   record {
@@ -80,7 +80,7 @@ attached-good g o d D = (
   },
 )
 
-image-good : (g : Shape) (o : Ledger) (d n : Meaning) → On-drive g o d → Image d n → On-drive g o n
+pub image-good : (g : Shape) (o : Ledger) (d n : Meaning) → On-drive g o d → Image d n → On-drive g o n
 image-good g o d n D im = drive-less g o d n D (well-formed-image d n (D .formed) im) (im .same-size) (image-of-possible d n im)
 
 -- ---- histories
@@ -90,7 +90,7 @@ module _ (r : Rules) (g : Shape) where
   unfolding Meets
   accepted-good d q a x w is h = subst (λ (o : Outcome). Meets o (Keeps g d)) is h
 
-  moment-good : (h h′ : History) (v : Volume) (d : Meaning) → Good g (v .drive) (v .memory) → Moment r h v h′ d → (o : Ledger) × On-drive g o d
+  pub moment-good : (h h′ : History) (v : Volume) (d : Meaning) → Good g (v .drive) (v .memory) → Moment r h v h′ d → (o : Ledger) × On-drive g o d
   moment-good h h′ v d G resting = (G .0, G .1 .drive)
   moment-good h h′ v d G (inside c a x w fit is) =
       let P = accepted-good (v .drive) (plan r c (v .drive) (v .memory)) a x w is (plan-keeps r g (v .drive) c (v .memory) fit G) in
@@ -138,27 +138,27 @@ shown-formed m a wf = go (shown m a) refl
     go spoiled is = tt
 
 module _ (m : Meaning) (id e : ℕ) (wf : Well-formed m) (fits : id < 2 ^ 32) (lim : in-limits id e (size m) ≡ true) where
-  shape : Shape
+  unfoldable pub shape : Shape
   shape = record { id = id; entries = e; records = size m; fits = fits; low = limits id e (size m) lim .0; high = limits id e (size m) lim .1 }
 
   -- every record of the page region is free
-  first-ledger : Ledger
+  pub first-ledger : Ledger
   first-ledger x = cond (within (page-region e (size m)) x) free lost
 
   new-size : size (new-volume m id e) ≡ size m
   unfolding new-volume
   new-size = length-map-counting (λ a. new-state id e (size m) a (shown m a)) 0 (size m)
 
-  new-at : (a : ℕ) → a < size m → settled-at (new-volume m id e) a ≡ new-state id e (size m) a (shown m a)
+  pub new-at : (a : ℕ) → a < size m → settled-at (new-volume m id e) a ≡ new-state id e (size m) a (shown m a)
   unfolding new-volume
   new-at a l = getD-map-counting (λ b. new-state id e (size m) b (shown m b)) 0 (size m) a a spoiled l (omega arith)
 
-  new-possible : (a : ℕ) (bs : List ℕ) → a < size m → Possible (new-volume m id e) a bs → new-state id e (size m) a (shown m a) ≡ readable bs
+  pub new-possible : (a : ℕ) (bs : List ℕ) → a < size m → Possible (new-volume m id e) a bs → new-state id e (size m) a (shown m a) ≡ readable bs
   unfolding new-volume
   new-possible a bs l (inl h) = sym (new-at a l) ∙ h
   new-possible a bs l (inr h) = absurd h
 
-  at-entry : (i : ℕ) (s : State) → i < e → new-state id e (size m) (entry-at i) s ≡ readable (entry-bytes id free-entry)
+  pub at-entry : (i : ℕ) (s : State) → i < e → new-state id e (size m) (entry-at i) s ≡ readable (entry-bytes id free-entry)
   at-entry i s l = grind (arith, tells)
 
   at-section : (k : ℕ) (s : State) → k < 3 → new-state id e (size m) (section-at k) s ≡ readable (new-section id e (size m) k)
@@ -185,7 +185,7 @@ module _ (m : Meaning) (id e : ℕ) (wf : Well-formed m) (fits : id < 2 ^ 32) (l
             (λ _. cond-both (leb 8 a && ltb a (8 + e)) _ _ Well-formed-state (λ _. entry-is-record id free-entry refl) (λ _. shown-formed m a wf))));
       }
 
-  new-good : On-drive shape first-ledger (new-volume m id e)
+  pub new-good : On-drive shape first-ledger (new-volume m id e)
   unfolding shape first-ledger
   new-good =
       let t = size m in
@@ -223,7 +223,7 @@ module _ (m : Meaning) (id e : ℕ) (wf : Well-formed m) (fits : id < 2 ^ 32) (l
 -- ---- what is good names each record once
 
 module _ (g : Shape) (o : Ledger) (n : Meaning) (D : On-drive g o n) (nothing : n .outstanding ≡ []) where
-  left-own : (l : Label) → label-left n ≡ Some l → (l .id ≡ g .id) × (l .entries ≡ g .entries)
+  pub left-own : (l : Label) → label-left n ≡ Some l → (l .id ≡ g .id) × (l .entries ≡ g .entries)
   left-own l h =
       let still : (a : ℕ) → shown n a ≡ settled-at n a = λ a. quiet-shown n a (ap (λ (ws : List Write). any-to ws a) nothing) in
       label-own g n o l D ((λ i. label-of (size n) (still 0 i) (still 7 i)) ∙ h)

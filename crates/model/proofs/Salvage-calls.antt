@@ -101,14 +101,14 @@ module _ (r : Region) where
 
 -- ---- mended entries
 
-abbrev region-of : Shape → Region
+abbrev pub region-of : Shape → Region
 region-of g = page-region (g .entries) (g .records)
 
 -- x is the mended form of what a record shows: it fits, it is sound, and it names no more
-record Mended-form (g : Shape) (s : State) (x : Entry) : Type 0 where
-  fits : Fitting-entry x
-  sound : addresses-sound (region-of g) x ≡ true
-  names : (p y : ℕ) → getD (x .slots) p 0 ≡ y → 0 < y → (z : Entry) × (whole-entry 0 (g .id) (bytes-in s) ≡ Some z) × (getD (z .slots) p 0 ≡ y)
+pub record Mended-form (g : Shape) (s : State) (x : Entry) : Type 0 where
+  pub fits : Fitting-entry x
+  pub sound : addresses-sound (region-of g) x ≡ true
+  pub names : (p y : ℕ) → getD (x .slots) p 0 ≡ y → 0 < y → (z : Entry) × (whole-entry 0 (g .id) (bytes-in s) ≡ Some z) × (getD (z .slots) p 0 ≡ y)
 
 free-form : (g : Shape) (s : State) → Mended-form g s free-entry
 free-form g s =
@@ -147,13 +147,13 @@ mended-form g s kept bytes = go (whole-entry-in-state (g .id) s) refl
 
 -- the first entry that does not show its mended form, or none
 module _ (id : ℕ) (r : Region) (s : States) where
-  abbrev form-at : List ℕ → ℕ → Entry
+  abbrev pub form-at : List ℕ → ℕ → Entry
   form-at kept i = mended r kept (whole-entry-in-state id (s (entry-at i)))
 
   abbrev shows-form : List ℕ → ℕ → Bool
   shows-form kept i = shows (s (entry-at i)) (entry-bytes id (form-at kept i))
 
-  unmended-is : (kept : List ℕ) (i n : ℕ) (u : Unmended) → first-unmended id r s kept i n ≡ Some u
+  pub unmended-is : (kept : List ℕ) (i n : ℕ) (u : Unmended) → first-unmended id r s kept i n ≡ Some u
       → (u .number < i + n) × ((kept′ : List ℕ) × (u .form ≡ form-at kept′ (u .number)))
   unmended-is kept i zero u h = absurd (none-not u h)
   unmended-is kept i (suc n) u h =
@@ -187,7 +187,7 @@ module _ (id : ℕ) (r : Region) (s : States) where
 
 -- ---- the map
 
-inexact-is : (id e t : ℕ) (s : States) (k n k′ : ℕ) → first-inexact id e t s k n ≡ Some k′ → k′ < k + n
+pub inexact-is : (id e t : ℕ) (s : States) (k n k′ : ℕ) → first-inexact id e t s k n ≡ Some k′ → k′ < k + n
 inexact-is id e t s k zero k′ h = absurd (none-not k′ h)
 inexact-is id e t s k (suc n) k′ h =
     let P : Bool → Type 0 = λ b. cond b (first-inexact id e t s (k + 1) n) (Some k) ≡ Some k′ in
@@ -257,10 +257,10 @@ module _ (r : Rules) (g : Shape) (d : Meaning) where
         },
       )
 
-  all-quiet : owed d ≡ 0 → (a : ℕ) → pending d a ≡ false
+  pub all-quiet : owed d ≡ 0 → (a : ℕ) → pending d a ≡ false
   all-quiet h a = ap (λ (ws : List Write). any-to ws a) (nil-from-length (d .outstanding) h)
 
-  form-shown : (o : Ledger) (e : ℕ) (kept : List ℕ) → On-drive g o d → Mended-form g (shown d (entry-at e)) (form-at (g .id) (region-of g) (shown d) kept e)
+  pub form-shown : (o : Ledger) (e : ℕ) (kept : List ℕ) → On-drive g o d → Mended-form g (shown d (entry-at e)) (form-at (g .id) (region-of g) (shown d) kept e)
   form-shown o e kept D =
       mended-form g (shown d (entry-at e)) kept (λ bs h. possible-bytes d (entry-at e) bs (D .formed) (shown-possible d (entry-at e) bs h))
 

@@ -11,6 +11,7 @@ pub mod Calls
 pub mod Histories
 pub mod Promises
 pub mod Names-law
+pub mod Pages-law
 pub mod Plan-laws
 pub mod Worked
 pub mod Runs

@@ -2,5 +2,6 @@
 pub mod memory;
 pub mod names_law;
 pub mod new;
+pub mod pages_law;
 pub mod plan_laws;
 pub mod runs;
