@@ -114,10 +114,10 @@ named-has (Leaving y) x h l = h
 named-has (Left y) x h l = omega arith
 
 -- the addresses that a file's entry names are its own
-named-own : (o : Ledger) (e : ℕ) (ss : List Slot) → Slots o e ss → (p x : ℕ) → getD (map on-entry ss) p 0 ≡ x → 0 < x → o x ≡ at-slot e p
+pub named-own : (o : Ledger) (e : ℕ) (ss : List Slot) → Slots o e ss → (p x : ℕ) → getD (map on-entry ss) p 0 ≡ x → 0 < x → o x ≡ at-slot e p
 named-own o e ss S p x at l = S p x (named-has (getD ss p Empty) x (sym (getD-mapped on-entry ss p Empty) ∙ at) l)
 
-none-has : (o : Ledger) (e : ℕ) → Slots o e (replicate 64 Empty)
+pub none-has : (o : Ledger) (e : ℕ) → Slots o e (replicate 64 Empty)
 none-has o e p x h = absurd (subst (λ (s : Slot). Has s x) (getD-replicated {A = Slot} 64 Empty p) h)
 
 loaded-back : (xs : List ℕ) → map on-entry (map loaded xs) ≡ xs

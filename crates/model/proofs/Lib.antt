@@ -12,6 +12,15 @@ pub mod Reached-laws
 pub mod Pages
 pub mod Page-calls
 pub mod Reached-pages
+pub mod Polling-laws
+pub mod Control-forms
+pub mod Reached-forms
+pub mod Mending-laws
+pub mod Salvage-steps
+pub mod Salvage-runs
+pub mod Mended-images
+pub mod Unharmed-laws
+pub mod Memory-laws
 pub mod Plan-laws
 pub mod Runs-laws
 pub mod Runs-worked

@@ -51,7 +51,7 @@ shut-is Shut h = refl
 shut-is Open h = absurd (true≢false (sym h))
 shut-is Closing h = absurd (true≢false (sym h))
 
-idle-is : (c : MapState) → is-idle c ≡ true → c ≡ Idle
+pub idle-is : (c : MapState) → is-idle c ≡ true → c ≡ Idle
 idle-is Idle h = refl
 idle-is (Writing k) h = absurd (true≢false (sym h))
 
@@ -109,7 +109,7 @@ module _ (g : Shape) (d : Meaning) where
           a-sound-section-is-the-record-of-what-is-read 0 (g .id) (map-span k (g .entries) (g .records)) (r .0) s (omega arith)
           (possible-bytes d (section-at k) (r .0) (D .formed) may) (r .2) .1
 
-  here-is : (v : Memory) (o : Ledger) (k : ℕ) → is-shut (v .phase) ≡ false → Inv g o d v → bits-shown d (v .id) (v .entries) k ≡ bits-here g d k
+  pub here-is : (v : Memory) (o : Ledger) (k : ℕ) → is-shut (v .phase) ≡ false → Inv g o d v → bits-shown d (v .id) (v .entries) k ≡ bits-here g d k
   here-is v o k work I =
       let own = I .own work in
       λ j. bits-or-none (section-in-state (own .0 j) (own .1 j) (I .drive .sized j) k (shown d (section-at k)))

@@ -86,7 +86,7 @@ image-good g o d n D im = drive-less g o d n D (well-formed-image d n (D .formed
 -- ---- histories
 
 module _ (r : Rules) (g : Shape) where
-  accepted-good : (d : Meaning) (q : Outcome) (a : Reply) (x : Memory) (w : Write) → q ≡ accept a x (Some w) → Meets q (Keeps g d) → Good g (posted d (w .at) (w .bytes)) x
+  pub accepted-good : (d : Meaning) (q : Outcome) (a : Reply) (x : Memory) (w : Write) → q ≡ accept a x (Some w) → Meets q (Keeps g d) → Good g (posted d (w .at) (w .bytes)) x
   unfolding Meets
   accepted-good d q a x w is h = subst (λ (o : Outcome). Meets o (Keeps g d)) is h
 
@@ -105,17 +105,17 @@ module _ (r : Rules) (g : Shape) where
       subst (λ (m : Memory). Good g (u .drive) m) (sym (e .0))
       (subst (λ (d : Meaning). Good g d x) (sym (e .1 .1)) (completed-good g (posted (v .drive) (w .at) (w .bytes)) x (e .1 .0) h))
 
-  call-good : (c : Call) (q : Outcome) (v u : Volume) → Good g (v .drive) (v .memory) → Fitting c → plan r c (v .drive) (v .memory) ≡ q → Leaves q v u → Good g (u .drive) (u .memory)
+  pub call-good : (c : Call) (q : Outcome) (v u : Volume) → Good g (v .drive) (v .memory) → Fitting c → plan r c (v .drive) (v .memory) ≡ q → Leaves q v u → Good g (u .drive) (u .memory)
   call-good c q v u G fit is e =
       leaves-good v u q G (subst (λ (o : Outcome). Meets o (Keeps g (v .drive))) is (plan-keeps r g (v .drive) c (v .memory) fit G)) e
 
-  poll-good : (v u : Volume) → Good g (v .drive) (v .memory) → Polls v u → Good g (u .drive) (u .memory)
+  pub poll-good : (v u : Volume) → Good g (v .drive) (v .memory) → Polls v u → Good g (u .drive) (u .memory)
   poll-good v u G P =
       let k = P .steps .0 in
       let stepped : Good g (u .drive) (v .memory) = subst (λ (d : Meaning). Good g d (v .memory)) (sym (P .steps .1 .1)) (completed-good g (v .drive) (v .memory) k G) in
       subst (λ (m : Memory). Good g (u .drive) m) (sym (P .joins)) (joined-keeps g (u .drive) (v .memory) (v .memory .chart) refl stepped)
 
-  cut-good : (h h′ : History) (v : Volume) (d n : Meaning) → Good g (v .drive) (v .memory) → Moment r h v h′ d → Image d n → (o : Ledger) × On-drive g o n
+  pub cut-good : (h h′ : History) (v : Volume) (d n : Meaning) → Good g (v .drive) (v .memory) → Moment r h v h′ d → Image d n → (o : Ledger) × On-drive g o n
   cut-good h h′ v d n G mo im =
       let M = moment-good h h′ v d G mo in
       (M .0, image-good g (M .0) d n (M .1) im)

@@ -12,6 +12,9 @@ pub mod Histories
 pub mod Promises
 pub mod Names-law
 pub mod Pages-law
+pub mod Salvage-law
+pub mod Power-cuts
+pub mod Memory-law
 pub mod Plan-laws
 pub mod Worked
 pub mod Runs
