@@ -8,6 +8,7 @@ ghost use Rattle.std.specs.declared.result.Result.the-variants.{Ok};
 ghost use Rattle.drive.specs.Faults.{said};
 ghost use Rattle.drive.specs.Meaning.{size};
 ghost use Rattle.model.specs.New.{entry-write, section-write, label-write, writes-of, new-writes, written, make-answer, after-make};
+ghost use Rattle.model.specs.Power-cuts.{Leaves-a-volume-no-power-cut-harms};
 ghost use Rattle.record.specs.Regions.{in-limits};
 use crate::layout::FIRST_ENTRY;
 use crate::layout::FIRST_SECTION;
@@ -38,6 +39,7 @@ pub fn make<D: Drive>(drive: &mut D, id: u32, entries: u16, page: &mut [u8]) -> 
     ensures answer { λ r. ⌜ said r ≡ make-answer (Of·Kind .life) (meaning (now (drive .entry))) id entries (length (now (page .entry))) ⌝ }
     ensures after { λ r. ⌜ meaning (now (drive .exit)) ≡ after-make r (meaning (now (drive .entry))) id entries ⌝ }
     ensures zero { λ _. ⌜ now (page .exit) ≡ replicate (length (now (page .entry))) 0 ⌝ }
+    ensures unharmed { λ r. ⌜ Leaves-a-volume-no-power-cut-harms r (record { depth = Of·Kind .depth; life = Of·Kind .life }) id entries (meaning (now (drive .exit))) ⌝ }
 {
     let work = Work(page);
     ask_make(drive, id, entries, work.0.len())?;
