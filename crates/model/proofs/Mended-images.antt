@@ -12,8 +12,10 @@ use Rattle.std.specs.declared.option.Option.the-variants.{Some, None}
 use Rattle.std.proofs.shelf.Tests.{cases-bool, and-parts, and-from, not-from-false, true≢false}
 use Rattle.drive.specs.Meaning.{readable, Write, Meaning, size, settled-at, shown, any-to}
 use Rattle.record.specs.declared.label.Label.{Label}
-use Rattle.record.specs.declared.label.LabelState.the-variants.{InUse}
+use Rattle.record.specs.declared.label.LabelState.{LabelState}
+use Rattle.record.specs.declared.label.LabelState.the-variants.{Closed, InUse, Salvage}
 use Rattle.record.specs.declared.entry.Entry.{Entry}
+use Rattle.record.specs.Labels.{state-number}
 use Rattle.record.specs.Regions.{in-limits, within, page-region, map-span, first-of}
 use Rattle.record.specs.Sections.{bit, bits-of, sound-section}
 use Rattle.record.specs.Entries.{among}
@@ -70,6 +72,11 @@ named-at id e t s i (suc n) x h =
 
 -- ---- what the sections show
 
+opens-when : (s : LabelState) → may-open s ≡ not (eqb (state-number s) 2)
+opens-when Closed = refl
+opens-when InUse = refl
+opens-when Salvage = refl
+
 module _ (g : Shape) (s : States) (k : ℕ) where
   -- what section k has free once it is exact
   left-free : ℕ → Bool
@@ -109,7 +116,7 @@ module _ (g : Shape) (lim : in-limits (g .id) (g .entries) (g .records) ≡ true
       let L = label-known g lim n (D .sized) F in
       (L .0, L .1, (λ i. label-of (size n) (sym (settled-shown label-at) i) (sym (settled-shown copy-at) i)) ∙ L .1, own-label g o n D (L .0) (L .1))
 
-  -- it opens exactly when the label's state allows it
+  -- it opens exactly when the label's state is not 2
   opens-unless : (r : Rules) → 1 ≤ r .depth → n .wear < r .life → Opens-unless-a-salvage-has-begun r n
   unfolding plan open-plan
   opens-unless r deep alive =
@@ -123,8 +130,8 @@ module _ (g : Shape) (lim : in-limits (g .id) (g .entries) (g .records) ≡ true
         l,
         L .2,
         elim (cases-bool (may-open (l .state))) [
-          | inl e ↦ ap is-accepted (eq ∙ (ask-yes 4 (may-open (l .state)) rest e ∙ accepted)) ∙ sym e
-          | inr e ↦ ap is-accepted (eq ∙ ask-no 4 (may-open (l .state)) rest e) ∙ sym e
+          | inl e ↦ ap is-accepted (eq ∙ (ask-yes 4 (may-open (l .state)) rest e ∙ accepted)) ∙ (sym e ∙ opens-when (l .state))
+          | inr e ↦ ap is-accepted (eq ∙ ask-no 4 (may-open (l .state)) rest e) ∙ (sym e ∙ opens-when (l .state))
         ],
       )
 

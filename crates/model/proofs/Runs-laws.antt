@@ -23,16 +23,16 @@ polls v = record { steps = (1, (omega arith, refl)); joins = refl }
 pub image : (m : Meaning) → Image m (as-settled m)
 image m = record { same-size = refl; each = λ a h. inl refl; nothing-owed = refl; same-wear = refl }
 
-from : (m : Meaning) (todo : List Act) (v : Volume) (h : History) → Fitting-run todo → Reached cabinet m h v → Reached cabinet m (history todo v h) (run todo v)
+from : (m : Meaning) (acts : List Act) (v : Volume) (h : History) → Fitting-run acts → Reached cabinet m h v → Reached cabinet m (history acts v h) (run acts v)
 unfolding history run after-act
 from m [] v h f r = r
-from m (call c ∷ todo) v h f r =
+from m (call c ∷ acts) v h f r =
     let o = plan cabinet c (v .drive) (v .memory) in
-    from m todo (after-call o v) (called c o ∷ h) (f .1) (by-call c o h v (after-call o v) r (f .0) refl (left o v))
-from m (poll ∷ todo) v h f r = from m todo (after-poll v) h f (by-poll h v (after-poll v) r (polls v))
-from m (power-cut ∷ todo) v h f r =
+    from m acts (after-call o v) (called c o ∷ h) (f .1) (by-call c o h v (after-call o v) r (f .0) refl (left o v))
+from m (poll ∷ acts) v h f r = from m acts (after-poll v) h f (by-poll h v (after-poll v) r (polls v))
+from m (power-cut ∷ acts) v h f r =
     let n = as-settled (v .drive) in
-    from m todo (attach n) (cut n ∷ h) f (by-cut h h v (v .drive) n r resting (image (v .drive)))
+    from m acts (attach n) (cut n ∷ h) f (by-cut h h v (v .drive) n r resting (image (v .drive)))
 
 pub every-run-is-a-history : Every-run-is-a-history
-every-run-is-a-history m todo f = from m todo (attach m) [] f at-first
+every-run-is-a-history m acts f = from m acts (attach m) [] f at-first

@@ -67,8 +67,8 @@ bytes-fit : (n : ℕ) → All (λ b. b < 256) (replicate n 1)
 bytes-fit zero = tt
 bytes-fit (suc n) = (omega arith, bytes-fit n)
 
-fits : (todo : List Act) → Fitting-run todo → Fitting-run (up-to-place ++ todo)
-fits todo f = (tt, (omega arith, (tt, (tt, (tt, ((omega arith, bytes-fit 512), f))))))
+fits : (acts : List Act) → Fitting-run acts → Fitting-run (up-to-place ++ acts)
+fits acts f = (tt, (omega arith, (tt, (tt, (tt, ((omega arith, bytes-fit 512), f))))))
 
 cut-history : Reached cabinet (new-volume (bare 20) 1 2) (cut (as-settled (run up-to-place (fresh 20) .drive)) ∷ history up-to-place (fresh 20) []) (attach (as-settled (run up-to-place (fresh 20) .drive)))
 unfolding run history after-act

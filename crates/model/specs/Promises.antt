@@ -4,6 +4,7 @@ use mathlib.Core.Bool.{Bool, true, false, not}
 use mathlib.Core.List.{List, []}
 use mathlib.Core.Logic.{_⊎_}
 use Prim.Native.Nat.{ℕ, suc, _+_, _-_, _<_, _≤_, _^_}
+use lib.Dec.{eqb}
 use lib.ListN.{getD}
 use Rattle.std.specs.declared.option.Option.{Option}
 use Rattle.std.specs.declared.option.Option.the-variants.{Some, None}
@@ -13,13 +14,13 @@ use Rattle.record.specs.declared.label.Label.{Label}
 use Rattle.record.specs.declared.section.Section.{Section}
 use Rattle.record.specs.declared.entry.Entry.{Entry}
 use Rattle.record.specs.Regions.{in-limits, within, page-region, first-of}
+use Rattle.record.specs.Labels.{state-number}
 use Rattle.record.specs.Sections.{bit}
 use Rattle.model.specs.Volume.{entry-at, section-at, label-at, copy-at}
 use Rattle.model.specs.Memory.{Memory}
 use Rattle.model.specs.New.{new-volume}
 use Rattle.model.specs.Outcomes.{Reply, ended, Outcome, accept, Rules}
 use Rattle.model.specs.Shown.{label-of, section-in-state, entry-in-state}
-use Rattle.model.specs.Plans.{may-open}
 use Rattle.model.specs.Stock.{cover}
 use Rattle.model.specs.Calls.{Call, open′, salvage, plan, Volume, Leaves, Drive-follows, Polls}
 use Rattle.model.specs.Histories.{History, Reached, Moment, attach, is-accepted, Placed, last-written}
@@ -106,10 +107,6 @@ pub record Mended (entries : ℕ) (n m : Meaning) : Type 0 where
   pub readable-entries-stay : (e : ℕ) (bs : List ℕ) → e < entries → settled-at n (entry-at e) ≡ readable bs → settled-at m (entry-at e) ≡ readable bs
   pub named-or-free : (a : ℕ) → within (page-region entries (size m)) a ≡ true → ((e : ℕ) × (meter : ℕ) × (p : ℕ) × Names m e meter p a) ⊎ Free m a
 
--- any volume can be polled, and polling ends
-abbrev pub Polling-ends : Type 0
-Polling-ends = (v : Volume) → (u : Volume) × Settles v u
-
 pub record Salvage-mends (g : Rules) (entries : ℕ) (n : Meaning) : Type 0 where
   pub goes-on : (k : ℕ) (v : Volume) → Salvaged g (attach n) k v
       → (r : Reply) × (x : Memory) × (w : Write) × (plan g (salvage 512 (size (v .drive))) (v .drive) (v .memory) ≡ accept r x (Some w)) × (k < entries + 5)
@@ -118,7 +115,7 @@ pub record Salvage-mends (g : Rules) (entries : ℕ) (n : Meaning) : Type 0 wher
 -- the image opens exactly when a salvage has not begun on it
 abbrev pub Opens-unless-a-salvage-has-begun : Rules → Meaning → Type 0
 Opens-unless-a-salvage-has-begun g n =
-    (l : Label) × (label-left n ≡ Some l) × (is-accepted (plan g (open′ 512) n (attach n .memory)) ≡ may-open (l .state))
+    (l : Label) × (label-left n ≡ Some l) × (is-accepted (plan g (open′ 512) n (attach n .memory)) ≡ not (eqb (state-number (l .state)) 2))
 
 -- ---- all of it
 

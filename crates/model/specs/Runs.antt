@@ -68,29 +68,29 @@ told-of-act power-cut v = owing 0
 -- the volume that a run leads to, and what is told on the way
 unfoldable pub run : List Act → Volume → Volume
 run [] v = v
-run (a ∷ todo) v = run todo (after-act a v)
+run (a ∷ acts) v = run acts (after-act a v)
 
 unfoldable pub told : List Act → Volume → List Told
 told [] v = []
-told (a ∷ todo) v = told-of-act a v ∷ told todo (after-act a v)
+told (a ∷ acts) v = told-of-act a v ∷ told acts (after-act a v)
 
 -- the history of a run, from one that led to v
 unfoldable pub history : List Act → Volume → History → History
 history [] v h = h
-history (call c ∷ todo) v h = history todo (after-act (call c) v) (called c (plan cabinet c (v .drive) (v .memory)) ∷ h)
-history (poll ∷ todo) v h = history todo (after-act poll v) h
-history (power-cut ∷ todo) v h = history todo (after-act power-cut v) (cut (as-settled (v .drive)) ∷ h)
+history (call c ∷ acts) v h = history acts (after-act (call c) v) (called c (plan cabinet c (v .drive) (v .memory)) ∷ h)
+history (poll ∷ acts) v h = history acts (after-act poll v) h
+history (power-cut ∷ acts) v h = history acts (after-act power-cut v) (cut (as-settled (v .drive)) ∷ h)
 
 -- the arguments of its calls fit their types
 abbrev pub Fitting-run : List Act → Type 0
 Fitting-run [] = Unit {0}
-Fitting-run (call c ∷ todo) = Fitting c × Fitting-run todo
-Fitting-run (poll ∷ todo) = Fitting-run todo
-Fitting-run (power-cut ∷ todo) = Fitting-run todo
+Fitting-run (call c ∷ acts) = Fitting c × Fitting-run acts
+Fitting-run (poll ∷ acts) = Fitting-run acts
+Fitting-run (power-cut ∷ acts) = Fitting-run acts
 
 abbrev pub Every-run-is-a-history : Type 0
 Every-run-is-a-history =
-    (m : Meaning) (todo : List Act) → Fitting-run todo → Reached cabinet m (history todo (attach m) []) (run todo (attach m))
+    (m : Meaning) (acts : List Act) → Fitting-run acts → Reached cabinet m (history acts (attach m) []) (run acts (attach m))
 
 -- ---- the examples
 
