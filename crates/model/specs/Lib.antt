@@ -2,6 +2,7 @@ pub mod Volume
 pub mod New
 pub mod Memory
 pub mod Outcomes
+pub mod Replies
 pub mod Shown
 pub mod Slots
 pub mod Stock

@@ -1,4 +1,5 @@
 // What a volume is and does, as definitions, and the laws that bind it.
+pub mod answers;
 pub mod memory;
 pub mod memory_law;
 pub mod names_law;
