@@ -37,6 +37,7 @@ use Rattle.model.specs.Histories.{is-accepted}
 use Rattle.model.specs.Promises.{label-left, Salvages, Mended, Salvage-mends, Opens-unless-a-salvage-has-begun}
 use Rattle.model.specs.Salvage-law.{Salvage-mends-every-image}
 use Rattle.model.proofs.Possible.{quiet-shown}
+use Rattle.model.proofs.Polling-laws.{polling-ends-for-every-volume}
 use Rattle.model.proofs.Read-back.{label-is-record}
 use Rattle.model.proofs.Ledger.{Ledger}
 use Rattle.model.proofs.Parts.{Shape, In-region, in-region, On-drive}
@@ -207,6 +208,7 @@ module _ (r : Rules) (g : Shape) (lim : in-limits (g .id) (g .entries) (g .recor
   pub image-mends : (o : Ledger) → On-drive g o n → Formed g n → n .outstanding ≡ [] → Salvage-mends r (g .entries) n
   image-mends o D F quiet =
       record {
+        polling-ends = polling-ends-for-every-volume .1;
         goes-on = λ k v done-so-far.
             let R = runs r g lim deep n life o D F quiet k v done-so-far in
             let N = next r g lim deep v (R .rest) (alive r g lim deep n life k v R) in

@@ -107,7 +107,9 @@ pub record Mended (entries : ℕ) (n m : Meaning) : Type 0 where
   pub readable-entries-stay : (e : ℕ) (bs : List ℕ) → e < entries → settled-at n (entry-at e) ≡ readable bs → settled-at m (entry-at e) ≡ readable bs
   pub named-or-free : (a : ℕ) → within (page-region entries (size m)) a ≡ true → ((e : ℕ) × (meter : ℕ) × (p : ℕ) × Names m e meter p a) ⊎ Free m a
 
+-- polling ends, so a run through exists; an unfinished one goes on and is short; a finished one has mended the image
 pub record Salvage-mends (g : Rules) (entries : ℕ) (n : Meaning) : Type 0 where
+  pub polling-ends : (v : Volume) → (u : Volume) × Settles v u
   pub goes-on : (k : ℕ) (v : Volume) → Salvaged g (attach n) k v
       → (r : Reply) × (x : Memory) × (w : Write) × (plan g (salvage 512 (size (v .drive))) (v .drive) (v .memory) ≡ accept r x (Some w)) × (k < entries + 5)
   pub mends : (k : ℕ) (v u : Volume) → Salvaged g (attach n) k v → Salvages g ended v u → Mended entries n (u .drive)
