@@ -1,4 +1,6 @@
 // Makes a new volume on a card, looks at it, and reports to the technician.
+#![tactic(auto)]
+
 mod report;
 
 use crate::report::Report;

@@ -1,4 +1,6 @@
 // Drives of 512-byte records: what one means, what its calls promise, and three kinds.
+#![tactic(auto)]
+
 mod asking;
 mod backlog;
 pub mod cabinet;

@@ -1,5 +1,7 @@
 // The evening run of a technician: a cabinet volume takes the readings of three meters, its van is cut off twice, and the
 // volume is salvaged. The parts work on one memory, that of the cabinet's drive.
+#![tactic(auto)]
+
 mod cut;
 mod evening;
 mod mend;

@@ -1,4 +1,6 @@
 // The figures of a report, from what a look at a volume shows.
+#![tactic(auto)]
+
 ghost use Rattle.std.specs.Prelude.{◌≡◌, ◌-◌, ◌<◌};
 ghost use Rattle.figures.specs.Figures.{section_free, records_free, entries_unsound, page_records, pages_adrift, pages_stored, hundredths};
 

@@ -1,4 +1,6 @@
 // What a salvage has to post next.
+#![tactic(auto)]
+
 mod entries;
 pub mod next;
 mod sections;

@@ -1,4 +1,6 @@
 // What a volume is and does, as definitions, and the laws that bind it.
+#![tactic(auto)]
+
 pub mod answers;
 pub mod memory;
 pub mod memory_law;

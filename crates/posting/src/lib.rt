@@ -1,4 +1,6 @@
 // Steps that the calls of a volume share: questions, and what a drive shows and is posted.
+#![tactic(auto)]
+
 pub mod asking;
 pub mod entries;
 pub mod labels;

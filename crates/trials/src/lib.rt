@@ -1,4 +1,6 @@
 // Runs of the other crates, as tests.
+#![tactic(auto)]
+
 #[cfg(test)]
 mod drives;
 #[cfg(test)]

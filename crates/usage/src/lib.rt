@@ -1,4 +1,6 @@
 // The store used rightly: a pass is given up at close and got anew by open, and every grant is spent.
+#![tactic(auto)]
+
 use drive::device::Drive;
 use drive::fault::Fault;
 use model::answers::{Drained, Withdrawn};

@@ -1,3 +1,5 @@
 // Runs of a volume on every kind of drive.
+#![tactic(auto)]
+
 #[cfg(test)]
 mod volumes;
