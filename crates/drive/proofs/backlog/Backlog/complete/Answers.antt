@@ -6,7 +6,7 @@ use Rattle.drive.proofs.backlog.Backlog.complete.Goals as goal
 
 pub loop-preserved : goal.loop-preserved
 loop-preserved c =
-    let one = c.complete-oldest.ensures in
+    let one = c.complete_oldest.ensures in
     let so_far = c.loop.invariant in (
       λ w. one.settled w ∙ ap (complete 1) (so_far.0 w) ∙ completing_in_turns (held c.args.self.now w) 1 c.loop.counter,
       one.kept,

@@ -3,5 +3,5 @@ use Rattle.drive.proofs.cabinet.Cabinet.complete_one.Goals as goal
 
 pub returns : goal.returns
 returns c =
-    let one = c.complete-oldest.ensures.settled c.args.self.now.wear in
-    record { after = (1, (omega arith, one)); one = one; lent = c.complete-oldest.ensures.lent }
+    let one = c.complete_oldest.ensures.settled c.args.self.now.wear in
+    record { after = (1, (omega arith, one)); one = one; lent = c.complete_oldest.ensures.lent }

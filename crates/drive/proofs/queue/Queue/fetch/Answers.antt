@@ -14,7 +14,7 @@ returns-then-self-i c =
       λ st.
           youngest_shown q.writes q.count i c.args.at st r (omega arith) (omega (arith, q.few, q.four)) c.if-self-i.true (λ k d l u. c.loop-i.invariant.0 k d (omega arith) u)
           ∙ ap (λ x. readable x.bytes) (get_or_default q.writes i r s (omega (arith, q.few, q.four)))
-          ∙ ap readable (sym c.copy-from-slice.ensures.after),
+          ∙ ap readable (sym c.copy_from_slice.ensures.after),
     )
 
 pub loop-i-preserved : goal.loop-i-preserved

@@ -8,14 +8,14 @@ bounds-self-at c = let s = c.args.self.now in omega (arith, room s.bytes.now s.m
 pub returns-then-self-at-ne0 : goal.returns-then-self-at-ne0
 returns-then-self-at-ne0 c = search (rules, fetched_spoiled)
 
-pub overflow-mul-from : goal.overflow-mul-from
-overflow-mul-from c = search (rules, room)
+pub overflow_mul-from : goal.overflow_mul-from
+overflow_mul-from c = search (rules, room)
 
-pub overflow-add-from : goal.overflow-add-from
-overflow-add-from c = search (rules, room)
+pub overflow_add-from : goal.overflow_add-from
+overflow_add-from c = search (rules, room)
 
-pub slice-bounds-copy-from-slice-end : goal.slice-bounds-copy-from-slice-end
-slice-bounds-copy-from-slice-end c = search (rules, room)
+pub slice_bounds-copy_from_slice-end : goal.slice_bounds-copy_from_slice-end
+slice_bounds-copy_from_slice-end c = search (rules, room)
 
 pub returns : goal.returns
 returns c = search (rules, fetched_readable)

@@ -20,22 +20,22 @@ returns-then-len-eq0 c =
       lent = (refl, refl);
     }
 
-pub invariant-of-self : goal.invariant-of-self
-invariant-of-self c =
+pub invariant_of-self : goal.invariant_of-self
+invariant_of-self c =
     let l = c.args.self.now in
     let fewer = owed_complete (held l.backlog 0) (held c.complete.new.self 0) c.max.result (c.complete.ensures.settled 0) in
-    (c.complete.ensures.kept, (l.worn, (omega (arith, fewer, l.few), tt)))
+    record { kept = c.complete.ensures.kept; worn = l.worn; few = omega (arith, fewer, l.few) }
 
 pub returns : goal.returns
 returns c =
     let l = c.args.self.now in
     let some : owed (of_lab l) ≡ 0 → ⊥ = λ e. c.if-len-eq0.false (c.len.ensures.value ∙ e) in
-    let count : c.max.result ≡ paced_step l.pace = c.max.ensures ∙ ap (λ n. max n 1) (c.paced.ensures ∙ ap paced c.next-pace-self.ensures) in
+    let count : c.max.result ≡ paced_step l.pace = c.max.ensures ∙ ap (λ n. max n 1) (c.paced.ensures ∙ ap paced c.next_pace-self.ensures) in
     let done = c.complete.ensures.settled l.wear ∙ ap (λ k. complete k (of_lab l)) count in
     record {
       after = (paced_step l.pace, (omega arith, done));
       remain = c.len-2.ensures.value;
-      pace = c.next-pace-self.ensures ∙ sym (cond-false (eqb (owed (of_lab l)) 0) l.pace (next_pace l.pace) (ne_eqb (owed (of_lab l)) 0 some));
+      pace = c.next_pace-self.ensures ∙ sym (cond-false (eqb (owed (of_lab l)) 0) l.pace (next_pace l.pace) (ne_eqb (owed (of_lab l)) 0 some));
       paced = done;
       lent = c.complete.ensures.lent;
     }
