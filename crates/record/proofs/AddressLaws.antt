@@ -13,7 +13,7 @@ use Rattle.record.specs.Entries.{among, may_stand, slots_sound}
 use Rattle.record.specs.Laws.{NamesEachPageOnce, SoundAddressesNameEachPageOnce}
 
 -- what `contains` answers
-pub among_contains : (xs : List ℕ) (a : ℕ) (r : Bool) → IsAnyAnswer (λ y t. Decides t (y ≡ a)) xs r → r ≡ among a xs
+pub among_contains : (xs : List ℕ) (a : ℕ) (r : Bool) → IsAnyAnswer (λ y t. eqb y a ≡ t) xs r → r ≡ among a xs
 among_contains xs a r h =
     same_from_decides r (among a xs) (contains_decides eqb Decides-eqb xs a r h)
     (Decides-by_or (λ y. eqb y a) (λ y. y ≡ a) (among a) (λ y. Decides-eqb y a) refl (λ _ _. refl) xs)

@@ -1,6 +1,5 @@
 -- The record of a section: how it is laid out word by word, and what is read from it.
 use Rattle.std.proofs.Common.{◌≡◌, ℕ, suc, ◌+◌, ◌-◌, ◌*◌, ◌/◌, ◌%◌, ◌^◌, ◌<◌, ◌≤◌, Bool, true, false, cond, ◌&&◌, eqb, List, [], ◌∷◌, ◌++◌, length, get_or, take, drop, set, replicate, Some, None, Decides, sym, refl, ap, ◌∙◌, subst, ap₂, arith}
-use Rattle.std.specs.Ordering.{And}
 use Rattle.std.proofs.ByRecursion.{All-drop}
 use Rattle.std.proofs.lemmas.List.{append_assoc, append-nil, ext_get_or, get_or-drop, length-append, length-drop, length-replicate, length-take, length-take-le, set_at, take_all, take_more}
 use Rattle.std.proofs.lemmas.Bool.{and_from, and_left, and_parts, both_ways, eq-eqb, ne_eqb, eqb-true, cond-true}
@@ -77,15 +76,19 @@ words_read p bits lp lb h =
 
 -- the halves of a word tell the word
 pub halves_tell : (w v h l m : ℕ) (q : ℕ × ℕ) (r : Bool) → w ≡ v → l ≡ m → m < 65536 → q ≡ (w / 65536, w % 65536)
-    → And (λ t. Decides t (q.0 ≡ h)) (λ t. Decides t (q.1 ≡ l)) r → r ≡ eqb v (h * 65536 + m)
-halves_tell w v h l m q r ew el fit e (true, d, k) =
+    → r ≡ (eqb q.0 h && eqb q.1 l) → r ≡ eqb v (h * 65536 + m)
+halves_tell w v h l m q r ew el fit e a =
     let e0 : q.0 ≡ w / 65536 = ap (λ (x : ℕ × ℕ). x.0) e in
     let e1 : q.1 ≡ w % 65536 = ap (λ (x : ℕ × ℕ). x.1) e in
-    let hi = d.0 refl in
-    same_from_decides r (eqb v (h * 65536 + m)) (λ t. let lo = k.0 t in omega arith, λ s. k.1 (omega arith)) (Decides-eqb v (h * 65536 + m))
-halves_tell w v h l m q r ew el fit e (false, d, k) =
-    let e0 : q.0 ≡ w / 65536 = ap (λ (x : ℕ × ℕ). x.0) e in
-    k ∙ sym (ne_eqb v (h * 65536 + m) (λ s. both_ways false refl (d.1 (omega arith))))
+    let parts : r ≡ true → v ≡ h * 65536 + m =
+    λ t.
+        let both = and_parts (eqb q.0 h) (eqb q.1 l) (sym a ∙ t) in
+        let hi = eqb-true q.0 h (both.0) in
+        let lo = eqb-true q.1 l (both.1) in
+        omega arith in
+    let whole : v ≡ h * 65536 + m → r ≡ true =
+    λ s. a ∙ and_from (eqb q.0 h) (eqb q.1 l) (eq-eqb q.0 h (omega arith)) (eq-eqb q.1 l (omega arith)) in
+    same_from_decides r (eqb v (h * 65536 + m)) (parts, whole) (Decides-eqb v (h * 65536 + m))
 
 pub both_right : (x y a b : Bool) → a ≡ x → b ≡ y → a ≡ true → b ≡ (x && y)
 both_right x y a b e f t = f ∙ ap (λ z. z && y) (sym t ∙ e)

@@ -106,7 +106,7 @@ fn has_text(page: &[u8]) -> bool
     requires { length page.now ≡ 512 }
     ensures { result ≡ same (between 8 24 page.now) label_text }
 {
-    &page[8..24] == TEXT
+    &page[8..24] == TEXT.as_slice()
 }
 
 // The version, the numbers of records and of entries, and the state are right.

@@ -12,17 +12,17 @@ loop-k-preserved c =
     let p = c.args.page.now in
     let k = c.loop-k.k in
     let i = c.loop-k.invariant in
-    let e = get_or_slots p c.as-chunks.result.0.now k c.requires (λ i. (c.type-inv.page i).fits) c.as-chunks.ensures.front c.loop-k-test.true in
-    let m = c.as-chunks.ensures.front-len in
+    let e = get_or_slots p c.as_chunks.result.0.now k c.requires (λ i. (c.type_inv.page i).fits) c.as_chunks.ensures.front c.loop-k-test.true in
+    let m = c.as_chunks.ensures.front_len in
     let n = length_slots p c.requires in
     let q = length_part p c.requires in
-    (length-set c.loop-k.slots k _ ∙ i.0, copied_more c.loop-k.slots _ k _ (omega arith) (omega arith) i.1 (c.from-be-bytes.ensures ∙ sym e))
+    (length-set c.loop-k.slots k _ ∙ i.0, copied_more c.loop-k.slots _ k _ (omega arith) (omega arith) i.1 (c.from_be_bytes.ensures ∙ sym e))
 
 pub returns : goal.returns
 returns c =
     let p = c.args.page.now in
     let i = c.loop-k.invariant in
-    let m = c.as-chunks.ensures.front-len in
+    let m = c.as_chunks.ensures.front_len in
     let n = length_slots p c.requires in
     let q = length_part p c.requires in
-    ap₂ {C = Entry} (λ m s. record { meter = m; slots = s }) c.get-word.ensures (copied_all c.loop-k.slots _ c.loop-k.k (omega arith) (omega arith) i.1)
+    ap₂ {C = Entry} (λ m s. record { meter = m; slots = s }) c.get_word.ensures (copied_all c.loop-k.slots _ c.loop-k.k (omega arith) (omega arith) i.1)

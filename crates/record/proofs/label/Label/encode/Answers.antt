@@ -8,7 +8,7 @@ pub returns : goal.returns
 unfolding label_record
 returns c =
     let l = c.args.self.now in
-    let f = c.put-numbers.ensures.fit in
+    let f = c.put_numbers.ensures.fit in
     sealed_control _ _ c.args.start l.id (label_body l) (search rules) (search rules)
     (label_body_fits l f.0 f.1.0 f.1.1)
-    (label_steps l _ _ _ _ _ c.requires c.clear.ensures c.put-word.ensures c.put-text.ensures c.put-numbers.ensures.bytes) c.seal.ensures
+    (label_steps l _ _ _ _ _ c.requires c.clear.ensures c.put_word.ensures c.put_text.ensures c.put_numbers.ensures.bytes) c.seal.ensures

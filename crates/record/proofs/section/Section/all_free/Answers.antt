@@ -3,7 +3,7 @@ use Rattle.record.specs.declared.section.Section.{Section}
 use Rattle.record.specs.Regions.{within}
 use Rattle.record.proofs.BitLaws.{OnBelow, on_none, on_more, on_passed, on_all}
 use Rattle.record.proofs.section.Section.all_free.Goals as goal
-use Rattle.record.proofs.section.Section.all_free.Goals.{then-may-be-free, else-may-be-free}
+use Rattle.record.proofs.section.Section.all_free.Goals.{then-may_be_free, else-may_be_free}
 
 pub loop-r-init : goal.loop-r-init
 loop-r-init c =
@@ -17,9 +17,9 @@ loop-r-preserved c =
     let bits_in : Section → List ℕ = λ s. s.bits in
     let below : r < 3968 = omega arith in
     let P : List ℕ → Type 0 = λ bits. OnBelow f (r + 1) bits in
-    elim c.if-may-be-free.branch [
-      | then-may-be-free w ↦ subst P (sym (ap bits_in w.section-is ∙ w.give.ensures)) (on_more f r c.loop-r.section.bits below (sym w.if-may-be-free.ensures) c.loop-r.invariant)
-      | else-may-be-free w ↦ subst P (sym (ap bits_in w.section-is)) (on_passed f r c.loop-r.section.bits below (sym w.if-may-be-free.ensures) c.loop-r.invariant)
+    elim c.if-may_be_free.branch [
+      | then-may_be_free w ↦ subst P (sym (ap bits_in w.section-is ∙ w.give.ensures)) (on_more f r c.loop-r.section.bits below (sym w.if-may_be_free.ensures) c.loop-r.invariant)
+      | else-may_be_free w ↦ subst P (sym (ap bits_in w.section-is)) (on_passed f r c.loop-r.section.bits below (sym w.if-may_be_free.ensures) c.loop-r.invariant)
     ]
 
 pub returns : goal.returns

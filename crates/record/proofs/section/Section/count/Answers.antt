@@ -4,8 +4,8 @@ use Rattle.record.specs.Sections.{bit}
 use Rattle.record.proofs.CountLaws.{count_word, count_le, free_is}
 use Rattle.record.proofs.section.Section.count.Goals as goal
 
-pub overflow-add-n : goal.overflow-add-n
-overflow-add-n c =
+pub overflow_add-n : goal.overflow_add-n
+overflow_add-n c =
     let bits = c.args.self.now.bits in
     let i = c.loop-w.w-index in
     let fit : get_or bits i 0 < 2 ^ 32 = search rules in

@@ -12,7 +12,7 @@ loop-k-init c =
     let s = c.args.span.now in
     let bits = c.args.self.now.bits in
     let b = c.joined-2.ensures ∙ ap (λ x. s.covered * 65536 + x) c.count.ensures in
-    (laid_none _ c.args.id _ _ _ _ _ _ _ _ bits c.requires.paged c.clear.ensures c.put-word.ensures c.put-word-2.ensures c.put-word-3.ensures c.joined.ensures b, tt)
+    (laid_none _ c.args.id _ _ _ _ _ _ _ _ bits c.requires.paged c.clear.ensures c.put_word.ensures c.put_word-2.ensures c.put_word-3.ensures c.joined.ensures b, tt)
 
 pub loop-k-preserved : goal.loop-k-preserved
 loop-k-preserved c =
@@ -21,7 +21,7 @@ loop-k-preserved c =
     let l : length bits ≡ 124 = omega arith in
     let h : k < 124 = omega arith in
     let fit : get_or bits k 0 < 2 ^ 32 = search rules in
-    (c.put-word-in-loop-k.ensures ∙ laid_more c.loop-k.page _ _ _ k bits l h c.loop-k.invariant.0, All-more (λ w. w < 2 ^ 32) bits k 0 (omega arith) c.loop-k.invariant.1 fit)
+    (c.put_word-in-loop-k.ensures ∙ laid_more c.loop-k.page _ _ _ k bits l h c.loop-k.invariant.0, All-more (λ w. w < 2 ^ 32) bits k 0 (omega arith) c.loop-k.invariant.1 fit)
 
 pub returns : goal.returns
 returns c =

@@ -11,7 +11,7 @@ loop-k-preserved c =
     let i = c.loop-k.k in
     let h : i < length bits = omega arith in
     let P : ℕ → Type 0 = λ w. (j : ℕ) → j < i + 1 → get_or (set bits i w) j 0 ≡ word p (4 + j) in
-    subst P (sym c.get-word.ensures) (fill_by_more (λ j. word p (4 + j)) bits i 0 h c.loop-k.invariant)
+    subst P (sym c.get_word.ensures) (fill_by_more (λ j. word p (4 + j)) bits i 0 h c.loop-k.invariant)
 
 pub returns : goal.returns
 returns c =
