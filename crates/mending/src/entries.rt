@@ -27,7 +27,7 @@ pub(crate) fn first_unmended<D: Drive>(
     requires paged { length page.old ≡ 512 }
     requires few { label.now.entries ≤ 3968 }
     requires inside { label.now.records ≤ length tally.old }
-    ensures { result ≡ unmended_in label.now (shown (meaning drive.now)) }
+    ensures { result ≡ unmended_in label.now (shown (D.meaning drive.now)) }
 {
     clear(tally);
     for i in 0..label.entries {
@@ -49,8 +49,8 @@ fn unmended_form<D: Drive>(
     requires paged { length page.old ≡ 512 }
     requires numbered { i < 3968 }
     requires inside { label.now.records ≤ length tally.old }
-    ensures form { (kept : List ℕ) → Tallies (pages_of label.now) tally.old kept → result ≡ unless_shown label.now (shown (meaning drive.now) (8 + i)) (form_of label.now kept (shown (meaning drive.now) (8 + i))) }
-    ensures tally { (kept : List ℕ) → Tallies (pages_of label.now) tally.old kept → Tallies (pages_of label.now) tally.new ((form_of label.now kept (shown (meaning drive.now) (8 + i))).slots ++ kept) }
+    ensures form { (kept : List ℕ) → Tallies (pages_of label.now) tally.old kept → result ≡ unless_shown label.now (shown (D.meaning drive.now) (8 + i)) (form_of label.now kept (shown (D.meaning drive.now) (8 + i))) }
+    ensures tally { (kept : List ℕ) → Tallies (pages_of label.now) tally.old kept → Tallies (pages_of label.now) tally.new ((form_of label.now kept (shown (D.meaning drive.now) (8 + i))).slots ++ kept) }
 {
     let region = Region::of_pages(label.entries, label.records);
     let read = read_shown(drive, FIRST_ENTRY + i, page);

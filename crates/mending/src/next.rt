@@ -24,9 +24,9 @@ pub fn next_mend<D: Drive>(
     tally: &mut [u8],
 ) -> (Salvaged, u16)
     requires paged { length page.old ≡ 512 }
-    requires tallied { length tally.old ≡ size (meaning drive.now) }
-    requires believed { label_shown (meaning drive.now) ≡ Some label.now }
-    ensures { (g : Rules) (v : Memory) → salvaging g (meaning drive.now) v label.now ≡ post g (meaning drive.now) (salvaged_reply result.0) v (record { at = result.1; bytes = page.new }) }
+    requires tallied { length tally.old ≡ size (D.meaning drive.now) }
+    requires believed { label_shown (D.meaning drive.now) ≡ Some label.now }
+    ensures { (g : Rules) (v : Memory) → salvaging g (D.meaning drive.now) v label.now ≡ post g (D.meaning drive.now) (salvaged_reply result.0) v (record { at = result.1; bytes = page.new }) }
 {
     if !has_begun(drive, page) {
         let begun = Label {
@@ -60,7 +60,7 @@ pub fn next_mend<D: Drive>(
 // Record 0 is believed, with the state of a salvage.
 fn has_begun<D: Drive>(drive: &D, page: &mut [u8]) -> bool
     requires { length page.old ≡ 512 }
-    ensures { result ≡ is_salvage (label_in_state (size (meaning drive.now)) (shown (meaning drive.now) 0)) }
+    ensures { result ≡ is_salvage (label_in_state (size (D.meaning drive.now)) (shown (D.meaning drive.now) 0)) }
 {
     let Some(label) = label_at(drive, LABEL, page) else {
         return false;

@@ -25,8 +25,8 @@ pub(crate) fn first_inexact<D: Drive>(
 ) -> Option<u8>
     requires paged { length page.old ≡ 512 }
     requires inside { label.now.records ≤ length tally.now }
-    requires named { Tallies (pages_of label.now) tally.now (named_in label.now (shown (meaning drive.now))) }
-    ensures { result ≡ inexact_in label.now (shown (meaning drive.now)) }
+    requires named { Tallies (pages_of label.now) tally.now (named_in label.now (shown (D.meaning drive.now))) }
+    ensures { result ≡ inexact_in label.now (shown (D.meaning drive.now)) }
 {
     for k in 0..SECTIONS {
         let mut bytes = [0; RECORD];

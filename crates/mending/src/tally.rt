@@ -18,7 +18,7 @@ pub(crate) fn tally_named<D: Drive>(drive: &D, label: &Label, page: &mut [u8], t
     requires paged { length page.old ≡ 512 }
     requires few { label.now.entries ≤ 3968 }
     requires inside { label.now.records ≤ length tally.old }
-    ensures { Tallies (pages_of label.now) tally.new (named_in label.now (shown (meaning drive.now))) }
+    ensures { Tallies (pages_of label.now) tally.new (named_in label.now (shown (D.meaning drive.now))) }
 {
     let region = Region::of_pages(label.entries, label.records);
     clear(tally);

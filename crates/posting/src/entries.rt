@@ -21,8 +21,8 @@ pub fn post_entry<D: Drive>(
 ) -> Result<(), Fault>
     requires paged { length page.old ≡ 512 }
     requires numbered { number < 3968 }
-    ensures answer { said result ≡ post_answer Of-as-Kind.depth Of-as-Kind.life (meaning drive.old) (entry_at number) (length (entry_bytes id entry.now)) }
-    ensures after { PostLeaves result (meaning drive.old) (entry_at number) (entry_bytes id entry.now) (meaning drive.new) }
+    ensures answer { said result ≡ post_answer D.Of.Kind.depth D.Of.Kind.life (D.meaning drive.old) (entry_at number) (length (entry_bytes id entry.now)) }
+    ensures after { PostLeaves result (D.meaning drive.old) (entry_at number) (entry_bytes id entry.now) (D.meaning drive.new) }
 {
     entry.encode(SUM_START, id, page);
     drive.post(FIRST_ENTRY + number, page)
@@ -30,7 +30,7 @@ pub fn post_entry<D: Drive>(
 
 // What an update makes of the slots, as long as the drive can be asked.
 pub fn moved_slots<D: Drive>(drive: &D, slots: &[Slot; 64]) -> [Slot; 64]
-    ensures { result ≡ map (updated (meaning drive.now)) slots.now }
+    ensures { result ≡ map (updated (D.meaning drive.now)) slots.now }
 {
     let mut moved = [Slot::Empty; 64];
     for (p, slot) in slots.iter().enumerate() {
@@ -40,7 +40,7 @@ pub fn moved_slots<D: Drive>(drive: &D, slots: &[Slot; 64]) -> [Slot; 64]
 }
 
 pub fn moved_slot<D: Drive>(drive: &D, slot: Slot) -> Slot
-    ensures { result ≡ updated (meaning drive.now) slot }
+    ensures { result ≡ updated (D.meaning drive.now) slot }
 {
     match slot {
         Slot::Nulled(a) if !drive.pending(a) => Slot::Live(a),

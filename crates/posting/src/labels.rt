@@ -14,7 +14,7 @@ use record::label::{Label, LabelState};
 // Is a label believed?
 pub fn ask_believed<D: Drive>(drive: &D, page: &mut [u8]) -> Result<Label, Fault>
     requires { length page.old ≡ 512 }
-    ensures { said result ≡ or_refused 3 (label_shown (meaning drive.now)) }
+    ensures { said result ≡ or_refused 3 (label_shown (D.meaning drive.now)) }
 {
     match believed_label(drive, page) {
         Some(label) => Ok(label),

@@ -17,8 +17,8 @@ pub const ENOUGH: usize = 16;
 // Section `k` as it shows; an unsound one has none free.
 pub fn shown_section<D: Drive>(drive: &D, label: &Label, k: u8, page: &mut [u8]) -> Section
     requires paged { length page.old ≡ 512 }
-    requires sized { label.now.records ≡ size (meaning drive.now) }
-    ensures { result.bits ≡ bits_shown (meaning drive.now) label.now.id label.now.entries k }
+    requires sized { label.now.records ≡ size (D.meaning drive.now) }
+    ensures { result.bits ≡ bits_shown (D.meaning drive.now) label.now.id label.now.entries k }
 {
     match sound_section(drive, label, k, page) {
         Some(section) => section,
@@ -29,8 +29,8 @@ pub fn shown_section<D: Drive>(drive: &D, label: &Label, k: u8, page: &mut [u8])
 // How many addresses each section shows as free.
 pub fn count_map<D: Drive>(drive: &D, label: &Label, page: &mut [u8]) -> [u32; 3]
     requires paged { length page.old ≡ 512 }
-    requires sized { label.now.records ≡ size (meaning drive.now) }
-    ensures { result ≡ map (λ k. free_count (bits_shown (meaning drive.now) label.now.id label.now.entries k)) (0 ∷ 1 ∷ 2 ∷ []) }
+    requires sized { label.now.records ≡ size (D.meaning drive.now) }
+    ensures { result ≡ map (λ k. free_count (bits_shown (D.meaning drive.now) label.now.id label.now.entries k)) (0 ∷ 1 ∷ 2 ∷ []) }
 {
     let first = shown_section(drive, label, 0, page).count();
     let second = shown_section(drive, label, 1, page).count();

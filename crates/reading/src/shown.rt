@@ -13,7 +13,7 @@ use record::section::Section;
 // Fills the page with a record; false where it cannot be read, or is past the end of the drive.
 pub fn read_shown<D: Drive>(drive: &D, at: u16, page: &mut [u8]) -> bool
     requires { length page.old ≡ 512 }
-    ensures { bytes_in (shown (meaning drive.now) at) ≡ (if result then page.new else []) }
+    ensures { bytes_in (shown (D.meaning drive.now) at) ≡ (if result then page.new else []) }
 {
     drive.read(at, page).is_ok()
 }
@@ -21,7 +21,7 @@ pub fn read_shown<D: Drive>(drive: &D, at: u16, page: &mut [u8]) -> bool
 // The label that one record is believed to be.
 pub fn label_at<D: Drive>(drive: &D, at: u16, page: &mut [u8]) -> Option<Label>
     requires { length page.old ≡ 512 }
-    ensures { result ≡ label_in_state (size (meaning drive.now)) (shown (meaning drive.now) at) }
+    ensures { result ≡ label_in_state (size (D.meaning drive.now)) (shown (D.meaning drive.now) at) }
 {
     if !read_shown(drive, at, page) {
         return None;
@@ -32,7 +32,7 @@ pub fn label_at<D: Drive>(drive: &D, at: u16, page: &mut [u8]) -> Option<Label>
 // The label that is believed: record 0, or else its copy, whose state counts as in use.
 pub fn believed_label<D: Drive>(drive: &D, page: &mut [u8]) -> Option<Label>
     requires { length page.old ≡ 512 }
-    ensures { result ≡ label_shown (meaning drive.now) }
+    ensures { result ≡ label_shown (D.meaning drive.now) }
 {
     if let Some(label) = label_at(drive, LABEL, page) {
         return Some(label);
@@ -47,7 +47,7 @@ pub fn believed_label<D: Drive>(drive: &D, page: &mut [u8]) -> Option<Label>
 // Map section `k` of the volume with this label, where it is sound.
 pub fn sound_section<D: Drive>(drive: &D, label: &Label, k: u8, page: &mut [u8]) -> Option<Section>
     requires { length page.old ≡ 512 }
-    ensures { result ≡ section_in_state label.now.id label.now.entries label.now.records k (shown (meaning drive.now) (1 + k)) }
+    ensures { result ≡ section_in_state label.now.id label.now.entries label.now.records k (shown (D.meaning drive.now) (1 + k)) }
 {
     if !read_shown(drive, FIRST_SECTION + u16::from(k), page) {
         return None;
@@ -60,7 +60,7 @@ pub fn sound_section<D: Drive>(drive: &D, label: &Label, k: u8, page: &mut [u8])
 pub fn sound_entry<D: Drive>(drive: &D, label: &Label, i: u16, page: &mut [u8]) -> Option<Entry>
     requires paged { length page.old ≡ 512 }
     requires numbered { i < 3968 }
-    ensures { result ≡ entry_in_state label.now.id label.now.entries label.now.records (shown (meaning drive.now) (8 + i)) }
+    ensures { result ≡ entry_in_state label.now.id label.now.entries label.now.records (shown (D.meaning drive.now) (8 + i)) }
 {
     if !read_shown(drive, FIRST_ENTRY + i, page) {
         return None;

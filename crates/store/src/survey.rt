@@ -29,7 +29,7 @@ pub struct Survey {
 
 // Looks at the volume. The page comes back zero.
 pub fn look<D: Drive>(drive: &D, page: &mut [u8]) -> Result<Survey, Fault>
-    ensures answer { said result ≡ survey_answer (meaning drive.now) (length page.old) }
+    ensures answer { said result ≡ survey_answer (D.meaning drive.now) (length page.old) }
     ensures zero { page.new ≡ replicate (length page.old) 0 }
 {
     let work = Work(page);
@@ -53,7 +53,7 @@ pub fn look<D: Drive>(drive: &D, page: &mut [u8]) -> Result<Survey, Fault>
 
 fn section_figures<D: Drive>(drive: &D, label: &Label, k: u8, page: &mut [u8]) -> SectionFigures
     requires { length page.old ≡ 512 }
-    ensures { result ≡ figures_of (meaning drive.now) label.now k }
+    ensures { result ≡ figures_of (D.meaning drive.now) label.now k }
 {
     let covered = Span::of_map(k, label.entries, label.records).covered;
     match sound_section(drive, label, k, page) {
@@ -74,8 +74,8 @@ fn section_figures<D: Drive>(drive: &D, label: &Label, k: u8, page: &mut [u8]) -
 fn count_entries<D: Drive>(drive: &D, label: &Label, page: &mut [u8]) -> (u16, u16)
     requires paged { length page.old ≡ 512 }
     requires few { label.now.entries ≤ 3968 }
-    ensures free { result.0 ≡ entries_that is_free_entry (meaning drive.now) label.now label.now.entries }
-    ensures sound { result.1 ≡ entries_that is_sound (meaning drive.now) label.now label.now.entries }
+    ensures free { result.0 ≡ entries_that is_free_entry (D.meaning drive.now) label.now label.now.entries }
+    ensures sound { result.1 ≡ entries_that is_sound (D.meaning drive.now) label.now label.now.entries }
 {
     let mut free = 0u16;
     let mut sound = 0u16;

@@ -10,15 +10,15 @@ use drive::fault::Fault;
 
 // Steps until nothing is outstanding.
 pub(crate) fn complete_all<D: Drive>(drive: &mut D)
-    ensures { meaning drive.new ≡ calm (meaning drive.old) }
+    ensures { D.meaning drive.new ≡ calm (D.meaning drive.old) }
 {
     while drive.step() > 0 {}
 }
 
 // Posts a write and completes it.
 pub(crate) fn write_through<D: Drive>(drive: &mut D, at: u16, page: &[u8]) -> Result<(), Fault>
-    ensures answer { said result ≡ post_answer Of-as-Kind.depth Of-as-Kind.life (meaning drive.old) at (length page.now) }
-    ensures after { meaning drive.new ≡ after_writing result (meaning drive.old) at page.now }
+    ensures answer { said result ≡ post_answer D.Of.Kind.depth D.Of.Kind.life (D.meaning drive.old) at (length page.now) }
+    ensures after { D.meaning drive.new ≡ after_writing result (D.meaning drive.old) at page.now }
 {
     drive.post(at, page)?;
     complete_all(drive);
@@ -28,11 +28,11 @@ pub(crate) fn write_through<D: Drive>(drive: &mut D, at: u16, page: &[u8]) -> Re
 // The same where nothing can be asked any more: nothing is outstanding, and there is life for the write.
 pub(crate) fn write_next<D: Drive>(drive: &mut D, at: u16, page: &[u8]) -> Result<(), Fault>
     requires paged { length page.now ≡ 512 }
-    requires inside { at < size (meaning drive.old) }
-    requires quiet { (meaning drive.old).outstanding ≡ [] }
-    requires alive { (meaning drive.old).wear < Of-as-Kind.life }
+    requires inside { at < size (D.meaning drive.old) }
+    requires quiet { (D.meaning drive.old).outstanding ≡ [] }
+    requires alive { (D.meaning drive.old).wear < D.Of.Kind.life }
     ensures accepted { result ≡ Ok tt }
-    ensures after { meaning drive.new ≡ calm (posted (meaning drive.old) at page.now) }
+    ensures after { D.meaning drive.new ≡ calm (posted (D.meaning drive.old) at page.now) }
 {
     write_through(drive, at, page)
 }

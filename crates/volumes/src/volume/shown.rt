@@ -18,7 +18,7 @@ use record::label::{Label, LabelState};
 impl<D: Drive> Volume<D> {
     // The opened volume's label, in some state.
     pub(crate) fn label(&self, state: LabelState) -> Label
-        ensures { result ≡ kept_label (meaning self.now.drive) (volume_of meaning self.now).memory state }
+        ensures { result ≡ kept_label (D.meaning self.now.drive) (volume_of D.meaning self.now).memory state }
     {
         self.memory.label(self.drive.size() as u16, state)
     }
@@ -27,7 +27,7 @@ impl<D: Drive> Volume<D> {
     pub(crate) fn shown_entry(&self, number: u16, page: &mut [u8]) -> Option<Entry>
         requires paged { length page.old ≡ 512 }
         requires numbered { number < 3968 }
-        ensures { result ≡ entry_shown (meaning self.now.drive) (volume_of meaning self.now).memory.id (volume_of meaning self.now).memory.entries number }
+        ensures { result ≡ entry_shown (D.meaning self.now.drive) (volume_of D.meaning self.now).memory.id (volume_of D.meaning self.now).memory.entries number }
     {
         sound_entry(&self.drive, &self.label(LabelState::InUse), number, page)
     }
@@ -35,7 +35,7 @@ impl<D: Drive> Volume<D> {
     // Is the entry's record not pending?
     pub(crate) fn ask_settled(&self, number: u16) -> Result<(), Fault>
         requires { number < 3968 }
-        ensures { said result ≡ asked 15 (not (pending (meaning self.now.drive) (8 + number))) }
+        ensures { said result ≡ asked 15 (not (pending (D.meaning self.now.drive) (8 + number))) }
     {
         if self.drive.pending(FIRST_ENTRY + number) {
             return Err(Question::Settled.refused());

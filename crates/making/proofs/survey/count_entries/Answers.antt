@@ -13,21 +13,21 @@ loop-i-preserved g c =
     let inv = c.loop-i.invariant in
     elim c.match-sound-entry.branch [
       | in-Some+then-is-free w ↦ (
-        count_next is_free_entry m l i free (Some w.in-Some.entry) _ w.in-Some.ensures inv.0 (w.free_is ∙ ap (λ b. free + cond b 1 0) w.if-is-free.ensures),
+        count_next is_free_entry m l i free (Some w.in-Some.entry) _ w.in-Some.ensures inv.0 (w.free-is ∙ ap (λ b. free + cond b 1 0) w.if-is-free.ensures),
         count_next is_sound m l i c.loop-i.sound (Some w.in-Some.entry) _ w.in-Some.ensures inv.1 w.sound-is,
-        omega (arith, w.free_is, inv.2),
+        omega (arith, w.free-is, inv.2),
         omega (arith, w.sound-is, inv.3),
       )
       | in-Some+else-is-free w ↦ (
-        count_next is_free_entry m l i free (Some w.in-Some.entry) _ w.in-Some.ensures inv.0 (w.free_is ∙ (none free ∙ ap (λ b. free + cond b 1 0) w.if-is-free.ensures)),
+        count_next is_free_entry m l i free (Some w.in-Some.entry) _ w.in-Some.ensures inv.0 (w.free-is ∙ (none free ∙ ap (λ b. free + cond b 1 0) w.if-is-free.ensures)),
         count_next is_sound m l i c.loop-i.sound (Some w.in-Some.entry) _ w.in-Some.ensures inv.1 w.sound-is,
-        omega (arith, w.free_is, inv.2),
+        omega (arith, w.free-is, inv.2),
         omega (arith, w.sound-is, inv.3),
       )
       | in-default w ↦ (
-        count_next is_free_entry m l i free None _ w.in-default.ensures inv.0 (w.free_is ∙ none free),
+        count_next is_free_entry m l i free None _ w.in-default.ensures inv.0 (w.free-is ∙ none free),
         count_next is_sound m l i c.loop-i.sound None _ w.in-default.ensures inv.1 (w.sound-is ∙ none c.loop-i.sound),
-        omega (arith, w.free_is, inv.2),
+        omega (arith, w.free-is, inv.2),
         omega (arith, w.sound-is, inv.3),
       )
     ]

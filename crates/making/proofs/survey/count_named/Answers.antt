@@ -12,12 +12,12 @@ loop-i-preserved g c =
     let inv = c.loop-i.invariant in
     elim c.match-sound-entry.branch [
       | in-Some w ↦ (
-        named_next m l i n (Some w.in-Some.entry) _ w.in-Some.ensures inv.0 (w.named_is ∙ ap (λ x. n + x) w.count-addresses-named.ensures.value),
-        omega (arith, w.named_is, w.count-addresses-named.ensures.bound, inv.1),
+        named_next m l i n (Some w.in-Some.entry) _ w.in-Some.ensures inv.0 (w.named-is ∙ ap (λ x. n + x) w.count-addresses-named.ensures.value),
+        omega (arith, w.named-is, w.count-addresses-named.ensures.bound, inv.1),
       )
       | in-default w ↦ (
-        named_next m l i n None _ w.in-default.ensures inv.0 (w.named_is ∙ none n),
-        omega (arith, w.named_is, inv.1),
+        named_next m l i n None _ w.in-default.ensures inv.0 (w.named-is ∙ none n),
+        omega (arith, w.named-is, inv.1),
       )
     ]
   where

@@ -17,7 +17,7 @@ pub returns-in-err-post-section : goal.returns-in-err-post-section
 returns-in-err-post-section g c reply =
     let p = err_from_is_err_and c.from-residual.result c.from-residual.ensures.1 in
     let v : Volume = volume_of g.D.Drive.meaning c.args.self.now in
-    let r = rules g.Of.Kind.depth g.Of.Kind.life in
+    let r = rules g.D.Of.Kind.depth g.D.Of.Kind.life in
     let k = c.covering-k.result in
     let service = c.service-service.ensures.value in
     let found = c.in-Some.ensures.first ∙ ap oldest service in
@@ -33,7 +33,7 @@ returns-in-err-post-section g c reply =
 pub returns : goal.returns
 returns g c reply =
     let v : Volume = volume_of g.D.Drive.meaning c.args.self.now in
-    let r = rules g.Of.Kind.depth g.Of.Kind.life in
+    let r = rules g.D.Of.Kind.depth g.D.Of.Kind.life in
     let k = c.covering-k.result in
     let service = c.service-service.ensures.value in
     let found = c.in-Some.ensures.first ∙ ap oldest service in

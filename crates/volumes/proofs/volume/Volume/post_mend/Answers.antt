@@ -64,7 +64,7 @@ returns-in-err-post g c =
     rw (p.1, p.2) (carried _ _ _ _ _ tt (post_refused _ _ _ _ _ _ _ _ _
     (asked_yes _ _ _ c.in-ok-ask-page.ensures ∙ (asked_yes _ _ _ c.in-ok-ask-shut.ensures ∙ (needed_some _ _ _ _ c.in-ok-label.ensures
     ∙ (asked_yes _ _ _ (c.in-ok-ask-tally.ensures ∙ at_size) ∙ (asked_yes _ _ _ (c.in-ok-ask-quiet.ensures ∙ at_owed)
-    ∙ c.next-mend-answer.ensures (rules g.Of.Kind.depth g.Of.Kind.life) v)))))
+    ∙ c.next-mend-answer.ensures (rules g.D.Of.Kind.depth g.D.Of.Kind.life) v)))))
     c.in-err-post.ensures.answer refl same))
 
 pub returns : goal.returns
@@ -77,5 +77,5 @@ returns g c =
     carried _ _ _ _ _ tt (posting _ _ _ _ _ _ _ _ posted.after.0
     (asked_yes _ _ _ c.in-ok-ask-page.ensures ∙ (asked_yes _ _ _ c.in-ok-ask-shut.ensures ∙ (needed_some _ _ _ _ c.in-ok-label.ensures
     ∙ (asked_yes _ _ _ (c.in-ok-ask-tally.ensures ∙ at_size) ∙ (asked_yes _ _ _ (c.in-ok-ask-quiet.ensures ∙ at_owed)
-    ∙ c.next-mend-answer.ensures (rules g.Of.Kind.depth g.Of.Kind.life) v)))))
+    ∙ c.next-mend-answer.ensures (rules g.D.Of.Kind.depth g.D.Of.Kind.life) v)))))
     posted.answer refl refl posted.after.1)

@@ -16,7 +16,7 @@ pub returns-in-err-post-section : goal.returns-in-err-post-section
 returns-in-err-post-section g c =
     let p = err_from_is_err_and c.from-residual.result c.from-residual.ensures.1 in
     let v : Volume = volume_of g.D.Drive.meaning c.args.self.now in
-    let r = rules g.Of.Kind.depth g.Of.Kind.life in
+    let r = rules g.D.Of.Kind.depth g.D.Of.Kind.life in
     let takes = c.take-lowest-taken.ensures in
     let service = c.len.ensures.same ∙ ap length c.service.ensures.value in
     let shown = c.shown-section-section.ensures ∙ ap (λ (l : Label). bits_shown v.drive l.id l.entries c.in-Some.k) c.label-label.ensures in
@@ -38,7 +38,7 @@ take-requires g c =
 pub returns : goal.returns
 returns g c =
     let v : Volume = volume_of g.D.Drive.meaning c.args.self.now in
-    let r = rules g.Of.Kind.depth g.Of.Kind.life in
+    let r = rules g.D.Of.Kind.depth g.D.Of.Kind.life in
     let takes = c.take-lowest-taken.ensures in
     let service = c.len.ensures.same ∙ ap length c.service.ensures.value in
     let shown = c.shown-section-section.ensures ∙ ap (λ (l : Label). bits_shown v.drive l.id l.entries c.in-Some.k) c.label-label.ensures in
