@@ -1,13 +1,13 @@
 -- A call that comes to its plan is carried out, and the steps of a plan as its questions are answered.
-use Rattle.std.proofs.Common.{◌≡◌, ℕ, Bool, true, false, List, [], length, Some, None, Ok, Err, Option, Result, sym, refl, ap, ◌∙◌, subst, arith}
+use Rattle.std.proofs.Common.{◌≡◌, ℕ, Bool, true, false, List, length, Some, None, Ok, Err, Option, Result, refl, ap, ◌∙◌, arith}
 use Rattle.drive.specs.Answers.{Answer, post_answer}
 use Rattle.drive.specs.Faults.{Refusal, refusal, no_record}
 use Rattle.drive.specs.Meaning.{Meaning, Write, owed, posted, complete}
 use Rattle.model.specs.Memory.{Memory}
 use Rattle.model.specs.Outcomes.{Reply, Outcome, refuse, accept, ask, need, need_of, if_accepted, Rules, post, keep}
-use Rattle.model.specs.Calls.{Call, plan, Volume, Leaves, Polls}
+use Rattle.model.specs.Calls.{Call, plan, Volume, Polls}
 use Rattle.model.specs.Histories.{Fitting, by_call, by_poll, by_cut, at_first, attach}
-use Rattle.model.specs.Carried.{answered, ComesTo, asked, or_refused, or_refused_at, CarriesOut, CarriesOutPoll, CarriesOutAttach}
+use Rattle.model.specs.Carried.{ComesTo, asked, or_refused, or_refused_at, CarriesOut, CarriesOutPoll, CarriesOutAttach}
 
 -- ---- the steps of a plan
 

@@ -1,5 +1,5 @@
 -- How the code of a call is held to its plan.
-use Rattle.std.specs.Prelude.{◌≡◌, ℕ, Bool, cond, List, [], ◌∷◌, Some, None, Ok, Err, Option, Result}
+use Rattle.std.specs.Prelude.{◌≡◌, ℕ, Bool, cond, [], ◌∷◌, Some, None, Ok, Err, Option, Result}
 use Rattle.drive.specs.declared.fault.Fault.{Fault}
 use Rattle.drive.specs.Answers.{Answer}
 use Rattle.drive.specs.Cuts.{Image}

@@ -1,6 +1,6 @@
 -- Salvage: the form that each entry is mended to, what the map then has to show, and the plan of the call.
-use Rattle.std.specs.Prelude.{ℕ, zero, suc, ◌+◌, Bool, true, false, cond, not, ◌&&◌, List, [], ◌∷◌, ◌++◌, length, Some, None, Option, ◌==◌}
-use Rattle.drive.specs.Meaning.{State, Write, Meaning, size, owed, shown}
+use Rattle.std.specs.Prelude.{ℕ, zero, suc, ◌+◌, Bool, true, false, cond, not, ◌&&◌, List, [], ◌∷◌, ◌++◌, Some, None, Option, ◌==◌}
+use Rattle.drive.specs.Meaning.{State, Meaning, size, owed, shown}
 use Rattle.record.specs.declared.region.Region.{Region}
 use Rattle.record.specs.declared.label.Label.{Label}
 use Rattle.record.specs.declared.label.LabelState.{LabelState}
@@ -12,7 +12,7 @@ use Rattle.record.specs.Sections.{bits_of}
 use Rattle.record.specs.Entries.{free_entry, among}
 use Rattle.model.specs.Volume.{entry_at, section_at, label_at, section_bytes, entry_bytes}
 use Rattle.model.specs.Memory.{Memory}
-use Rattle.model.specs.Outcomes.{Reply, section, entry, begun, ended, Outcome, ask, need, Rules, post}
+use Rattle.model.specs.Outcomes.{section, entry, begun, ended, Outcome, ask, need, Rules, post}
 use Rattle.model.specs.Shown.{bytes_in, with_state, label_in_state, label_shown, entry_in_state, whole_entry_in_state}
 use Rattle.model.specs.Plans.{is_shut, ask_page, label_write}
 

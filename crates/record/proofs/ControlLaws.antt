@@ -1,14 +1,14 @@
 -- The walk over a record's words, and what a control record is.
-use Rattle.std.proofs.Common.{◌≡◌, ℕ, zero, suc, ◌+◌, ◌*◌, ◌/◌, ◌%◌, ◌^◌, ◌<◌, ◌≤◌, Bool, true, false, cond, ◌&&◌, eqb, ◌≢◌, List, [], ◌∷◌, ◌++◌, map, length, get_or, take, drop, set, sym, refl, ap, ◌∙◌, subst, ap₂, add-one, arith}
+use Rattle.std.proofs.Common.{◌≡◌, ℕ, suc, ◌+◌, ◌/◌, ◌^◌, ◌<◌, ◌≤◌, true, cond, eqb, List, [], ◌∷◌, map, length, get_or, drop, sym, refl, ap, ◌∙◌, ap₂, add-one, arith}
 use Rattle.std.specs.Simd.{first_chunks}
 use Rattle.std.specs.List.{AllByRecursion as All}
-use Rattle.std.proofs.ByRecursion.{All-from_get_or, All-get_or, All-drop}
-use Rattle.std.proofs.lemmas.List.{at_drop_more, get_or-map, length-map, get_or-set_same, get_or-set_other}
+use Rattle.std.proofs.ByRecursion.{All-from_get_or}
+use Rattle.std.proofs.lemmas.List.{at_drop_more, get_or-map, length-map}
 use Rattle.std.proofs.lemmas.Bool.{eq-eqb, ne_eqb, cond_both, and_from, and_parts, eqb-true}
 use Rattle.drive.specs.Meaning.{RecordBytes}
-use Rattle.record.specs.Words.{be, be_bytes, word, put, words, unwords}
-use Rattle.record.specs.Control.{rotated, added, sum_from, check, control, whole}
-use Rattle.record.proofs.WordLaws.{words_put, put_more, put_unwords, length_words, words_unwords, unwords_words, length_unwords, word_fits}
+use Rattle.record.specs.Words.{be, word, put, words, unwords}
+use Rattle.record.specs.Control.{added, sum_from, check, control, whole}
+use Rattle.record.proofs.WordLaws.{put_unwords, length_words, words_unwords, unwords_words, length_unwords, word_fits}
 
 -- the number that an array of four bytes writes, as `from_be_bytes` has it
 abbrev pub number : List ℕ → ℕ

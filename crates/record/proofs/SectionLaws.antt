@@ -1,8 +1,8 @@
 -- The record of a section: how it is laid out word by word, and what is read from it.
-use Rattle.std.proofs.Common.{◌≡◌, ℕ, suc, ◌+◌, ◌-◌, ◌*◌, ◌/◌, ◌%◌, ◌^◌, ◌<◌, ◌≤◌, Bool, true, false, cond, ◌&&◌, eqb, List, [], ◌∷◌, ◌++◌, length, get_or, take, drop, set, replicate, Some, None, Decides, sym, refl, ap, ◌∙◌, subst, ap₂, arith}
+use Rattle.std.proofs.Common.{◌≡◌, ℕ, suc, ◌+◌, ◌-◌, ◌*◌, ◌/◌, ◌%◌, ◌^◌, ◌<◌, ◌≤◌, Bool, true, false, cond, ◌&&◌, eqb, List, [], ◌∷◌, ◌++◌, length, get_or, take, drop, set, replicate, Some, None, sym, refl, ap, ◌∙◌, subst, ap₂, arith}
 use Rattle.std.proofs.ByRecursion.{All-drop}
 use Rattle.std.proofs.lemmas.List.{append_assoc, append-nil, ext_get_or, get_or-drop, length-append, length-drop, length-replicate, length-take, length-take-le, set_at, take_all, take_more}
-use Rattle.std.proofs.lemmas.Bool.{and_from, and_left, and_parts, both_ways, eq-eqb, ne_eqb, eqb-true, cond-true}
+use Rattle.std.proofs.lemmas.Bool.{and_from, and_left, and_parts, eq-eqb, eqb-true, cond-true}
 use Rattle.std.proofs.lemmas.Bool.Decides.{same_from_decides, Decides-eqb}
 use Rattle.record.specs.declared.region.Span.{Span}
 use Rattle.record.specs.declared.section.Section.{Section}
@@ -82,10 +82,10 @@ halves_tell w v h l m q r ew el fit e a =
     let e1 : q.1 ≡ w % 65536 = ap (λ (x : ℕ × ℕ). x.1) e in
     let parts : r ≡ true → v ≡ h * 65536 + m =
     λ t.
-        let both = and_parts (eqb q.0 h) (eqb q.1 l) (sym a ∙ t) in
-        let hi = eqb-true q.0 h (both.0) in
-        let lo = eqb-true q.1 l (both.1) in
-        omega arith in
+    let both = and_parts (eqb q.0 h) (eqb q.1 l) (sym a ∙ t) in
+    let hi = eqb-true q.0 h (both.0) in
+    let lo = eqb-true q.1 l (both.1) in
+    omega arith in
     let whole : v ≡ h * 65536 + m → r ≡ true =
     λ s. a ∙ and_from (eqb q.0 h) (eqb q.1 l) (eq-eqb q.0 h (omega arith)) (eq-eqb q.1 l (omega arith)) in
     same_from_decides r (eqb v (h * 65536 + m)) (parts, whole) (Decides-eqb v (h * 65536 + m))

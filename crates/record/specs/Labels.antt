@@ -1,5 +1,5 @@
 -- The layout of a label.
-use Rattle.std.specs.Prelude.{ℕ, Bool, cond, ◌&&◌, List, [], ◌∷◌, ◌++◌, take, drop, replicate, Some, None, codes, Option, ◌==◌, nat_le}
+use Rattle.std.specs.Prelude.{ℕ, Bool, cond, ◌&&◌, List, ◌∷◌, ◌++◌, take, drop, replicate, Some, None, codes, Option, ◌==◌, nat_le}
 use Rattle.std.specs.List.{between}
 use Rattle.record.specs.declared.label.Label.{Label}
 use Rattle.record.specs.declared.label.LabelState.{LabelState}

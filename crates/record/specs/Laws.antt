@@ -1,5 +1,5 @@
 -- Laws of the layouts.
-use Rattle.std.specs.Prelude.{◌≡◌, ℕ, ◌+◌, ◌^◌, ◌<◌, ◌≤◌, Bool, true, false, cond, List, length, Some, Decides, MatchOption, ◌==◌, ◌≢◌, slice_index}
+use Rattle.std.specs.Prelude.{◌≡◌, ℕ, ◌+◌, ◌^◌, ◌<◌, ◌≤◌, true, false, cond, List, length, Some, Decides, MatchOption, ◌==◌, ◌≢◌, slice_index}
 use Rattle.std.specs.List.{AllByRecursion as All}
 use Rattle.drive.specs.Meaning.{RecordBytes}
 use Rattle.record.specs.declared.label.Label.{Label}

@@ -1,5 +1,5 @@
 -- The layout of a map section: a bit for each of 3,968 numbers, 32 to a word, the highest bit first. On means free.
-use Rattle.std.specs.Prelude.{ℕ, zero, suc, ◌+◌, ◌-◌, ◌*◌, ◌/◌, ◌%◌, ◌^◌, Bool, true, cond, not, ◌&&◌, ◌||◌, List, [], ◌∷◌, map, drop, replicate, Some, None, count_by, Option, ◌==◌, slice_index, slice_set}
+use Rattle.std.specs.Prelude.{ℕ, zero, suc, ◌+◌, ◌-◌, ◌*◌, ◌/◌, ◌%◌, ◌^◌, Bool, true, cond, not, ◌&&◌, ◌||◌, List, ◌∷◌, map, drop, replicate, Some, None, count_by, Option, ◌==◌, slice_index, slice_set}
 use Rattle.std.specs.List.{range_with_len}
 use Rattle.record.specs.declared.region.Span.{Span}
 use Rattle.record.specs.declared.section.Section.{Section}

@@ -1,8 +1,8 @@
 -- A post that cannot be refused.
-use Rattle.std.proofs.Common.{◌≡◌, ℕ, ◌<◌, ◌≤◌, cond, eqb, ltb, List, [], length, Ok, Err, Result, sym, refl, ap, ◌∙◌, arith}
+use Rattle.std.proofs.Common.{◌≡◌, ℕ, ◌<◌, ◌≤◌, List, [], length, Ok, Err, Result, refl, ap, ◌∙◌, arith}
 use Rattle.std.proofs.lemmas.Bool.{eq-eqb, lt-ltb}
 use Rattle.drive.specs.declared.fault.Fault.{Fault}
-use Rattle.drive.specs.Answers.{Answer, post_answer}
+use Rattle.drive.specs.Answers.{post_answer}
 use Rattle.drive.specs.Faults.{said}
 use Rattle.drive.specs.Meaning.{Meaning, size, owed, posted, calm}
 use Rattle.store.specs.Through.{after_writing}

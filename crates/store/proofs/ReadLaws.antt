@@ -1,9 +1,9 @@
 -- What a read tells of a record.
-use Rattle.std.proofs.Common.{◌≡◌, ℕ, ◌<◌, ◌≤◌, true, false, cond, eqb, ltb, List, [], ◌∷◌, length, get_or, is_ok, Ok, Err, Result, sym, refl, ap, ◌∙◌, subst, inl, inr, arith}
+use Rattle.std.proofs.Common.{◌≡◌, ℕ, ◌<◌, ◌≤◌, false, cond, List, [], ◌∷◌, length, is_ok, Ok, Err, Result, sym, refl, ap, ◌∙◌, inl, inr, arith}
 use Rattle.std.proofs.lemmas.List.{get_or_past}
 use Rattle.std.proofs.lemmas.Bool.{cases_lt, eq-eqb, ne_eqb, lt-ltb, le-ltb}
 use Rattle.drive.specs.declared.fault.Fault.{Fault}
-use Rattle.drive.specs.Answers.{Answer, refused, readable_answer, read_answer, read_page, filled_page}
+use Rattle.drive.specs.Answers.{refused, readable_answer, read_answer, read_page, filled_page}
 use Rattle.drive.specs.Faults.{said}
 use Rattle.drive.specs.Meaning.{State, readable, spoiled, Write, Meaning, size, youngest, shown, settled_at, EveryWrite, RecordBytes, WellFormed}
 use Rattle.model.specs.Shown.{bytes_in}

@@ -1,5 +1,5 @@
 -- What a look at a volume finds.
-use Rattle.std.specs.Prelude.{ℕ, ◌+◌, Bool, true, false, cond, not, List, [], ◌∷◌, map, Some, None, Ok, Err, count_by, Option, Result, ◌==◌}
+use Rattle.std.specs.Prelude.{ℕ, ◌+◌, Bool, true, false, cond, [], ◌∷◌, Some, None, Ok, Err, count_by, Option, Result, ◌==◌}
 use Rattle.std.specs.List.{range_with_len}
 use Rattle.drive.specs.Faults.{Refusal, refusal, no_record}
 use Rattle.drive.specs.Meaning.{Meaning, shown}

@@ -22,7 +22,7 @@ impl<'a> Cabinet<'a> {
     {
         Cabinet {
             backlog: Backlog::new(bytes, marks),
-            wear: wear.min(<CabinetKind as crate::device::Kind>::LIFE),
+            wear: wear.min(CabinetKind::LIFE),
         }
     }
 
@@ -72,8 +72,8 @@ impl<'a> Drive for Cabinet<'a> {
     {
         ask_address(page.len(), at, self.size())?;
         ask_room(
-            <CabinetKind as crate::device::Kind>::DEPTH,
-            <CabinetKind as crate::device::Kind>::LIFE,
+            CabinetKind::DEPTH,
+            CabinetKind::LIFE,
             self.backlog.len(),
             self.wear,
             at,
@@ -101,7 +101,7 @@ impl<'a> Drive for Cabinet<'a> {
     }
 
     fn left(&self) -> u32 {
-        <CabinetKind as crate::device::Kind>::LIFE - self.wear
+        CabinetKind::LIFE - self.wear
     }
 
     fn size(&self) -> usize {

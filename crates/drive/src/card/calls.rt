@@ -22,7 +22,7 @@ impl<'a> Card<'a> {
     {
         Card {
             surface: Surface::new(bytes, marks),
-            wear: wear.min(<CardKind as crate::device::Kind>::LIFE),
+            wear: wear.min(CardKind::LIFE),
         }
     }
 
@@ -68,13 +68,7 @@ impl<'a> Drive for Card<'a> {
         ensures lent { SameMemory self.old.surface self.new.surface }
     {
         ask_address(page.len(), at, self.size())?;
-        ask_room(
-            <CardKind as crate::device::Kind>::DEPTH,
-            <CardKind as crate::device::Kind>::LIFE,
-            0,
-            self.wear,
-            at,
-        )?;
+        ask_room(CardKind::DEPTH, CardKind::LIFE, 0, self.wear, at)?;
         self.settle(at, page);
         Ok(())
     }
@@ -98,7 +92,7 @@ impl<'a> Drive for Card<'a> {
     }
 
     fn left(&self) -> u32 {
-        <CardKind as crate::device::Kind>::LIFE - self.wear
+        CardKind::LIFE - self.wear
     }
 
     fn size(&self) -> usize {

@@ -42,7 +42,7 @@ impl<'a> Lab<'a> {
     {
         Lab {
             backlog: Backlog::new(bytes, marks),
-            wear: wear.min(<LabKind as crate::device::Kind>::LIFE),
+            wear: wear.min(LabKind::LIFE),
             pace,
         }
     }
@@ -72,8 +72,8 @@ impl<'a> Drive for Lab<'a> {
     {
         ask_address(page.len(), at, self.size())?;
         ask_room(
-            <LabKind as crate::device::Kind>::DEPTH,
-            <LabKind as crate::device::Kind>::LIFE,
+            LabKind::DEPTH,
+            LabKind::LIFE,
             self.backlog.len(),
             self.wear,
             at,
@@ -109,7 +109,7 @@ impl<'a> Drive for Lab<'a> {
     }
 
     fn left(&self) -> u32 {
-        <LabKind as crate::device::Kind>::LIFE - self.wear
+        LabKind::LIFE - self.wear
     }
 
     fn size(&self) -> usize {

@@ -1,7 +1,7 @@
-use Rattle.std.proofs.Common.{◌≡◌, ◌≤◌, false, eqb, length, sym, ◌∙◌, arith}
+use Rattle.std.proofs.Common.{◌≡◌, false, eqb, sym, ◌∙◌, arith}
 use Rattle.std.proofs.lemmas.Bool.{eq-eqb, ne_eqb}
 use Rattle.record.specs.Words.{words, word}
-use Rattle.record.proofs.WordLaws.{length_words, zeros_more, zeros_none}
+use Rattle.record.proofs.WordLaws.{length_words, zeros_more}
 use Rattle.record.proofs.words.zero_between.Goals as goal
 
 pub returns-then-get_word-ne0 : goal.returns-then-get_word-ne0

@@ -1,5 +1,5 @@
 use Rattle.std.proofs.Common.{◌≡◌, length, replicate, sym, ap, ◌∙◌, subst, arith}
-use Rattle.drive.specs.Meaning.{size, calm}
+use Rattle.drive.specs.Meaning.{size}
 use Rattle.drive.proofs.MeaningLaws.{length_settle}
 use Rattle.model.specs.Outcomes.{Rules}
 use Rattle.model.specs.Promises.{NoPowerCutHarms}

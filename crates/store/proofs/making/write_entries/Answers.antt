@@ -1,4 +1,4 @@
-use Rattle.std.proofs.Common.{◌≡◌, refl, ap, ◌∙◌, arith}
+use Rattle.std.proofs.Common.{refl, ap, ◌∙◌, arith}
 use Rattle.model.specs.Volume.{entry_bytes}
 use Rattle.model.specs.New.{entry_write}
 use Rattle.model.proofs.NewLaws.{written_keeps, written_next}

@@ -1,5 +1,5 @@
 use Rattle.std.proofs.Common.{◌≡◌, [], ◌∷◌, ap, ◌∙◌, arith}
-use Rattle.drive.specs.Meaning.{Meaning, size}
+use Rattle.drive.specs.Meaning.{size}
 use Rattle.model.specs.New.{entry_write, section_write, label_write, writes_of, new_writes, written}
 use Rattle.model.proofs.NewLaws.{written_keeps, written_three, limits}
 use Rattle.store.proofs.making.write_volume.Goals as goal

@@ -1,6 +1,6 @@
-use Rattle.std.proofs.Common.{◌≡◌, ◌+◌, ◌<◌, length, sym, refl, ap, ◌∙◌, arith, length-drop}
+use Rattle.std.proofs.Common.{ap, ◌∙◌, arith, length-drop}
 use Rattle.std.proofs.lemmas.List.{nil_from_length}
-use Rattle.drive.specs.Meaning.{owed, complete, calm}
+use Rattle.drive.specs.Meaning.{owed, calm}
 use Rattle.drive.proofs.CalmLaws.{calm_is, calm_complete}
 use Rattle.store.proofs.through.complete_all.Goals as goal
 

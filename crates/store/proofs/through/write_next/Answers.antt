@@ -1,4 +1,4 @@
-use Rattle.std.proofs.Common.{◌≡◌, length, Ok, ◌∙◌}
+use Rattle.std.proofs.Common.{length, ◌∙◌}
 use Rattle.store.proofs.Accepted.{accepts, said_ok, after_accepted}
 use Rattle.store.proofs.through.write_next.Goals as goal
 
