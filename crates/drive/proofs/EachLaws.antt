@@ -1,12 +1,12 @@
 -- What a test of every element tells.
 use Rattle.std.proofs.Common.{◌≡◌, ℕ, zero, suc, Bool, true, ltb, List, [], ◌∷◌, ◌++◌, get_or, set, replicate, sym, refl, ap, ◌∙◌, w8, Fits}
-use Rattle.std.specs.List.{AllByRecursion as All}
+use Rattle.std.specs.List.{AllByRecursion}
 use Rattle.std.proofs.ByRecursion.{All-from_get_or, All-push, All-set}
 use Rattle.std.proofs.lemmas.Bool.{and_from, and_parts, lt-ltb}
 use Rattle.drive.specs.Each.{each, all_bytes}
 use Rattle.drive.specs.Formed.{all_from_each}
 
-pub each_from_all : {X : Type 0} (test : X → Bool) (xs : List X) → All (λ x. test x ≡ true) xs → each test xs ≡ true
+pub each_from_all : {X : Type 0} (test : X → Bool) (xs : List X) → AllByRecursion (λ x. test x ≡ true) xs → each test xs ≡ true
 unfolding each
 each_from_all test [] h = refl
 each_from_all test (x ∷ xs) h = and_from (test x) (each test xs) h.0 (each_from_all test xs h.1)

@@ -4,7 +4,7 @@ use borrow.Rule.Slice.PartMut.{put_mid}
 use Rattle.std.proofs.lemmas.List.{length-append, length-take, length-drop, length-set, get_or-set_same, get_or-set_other, same_lists}
 use Rattle.std.proofs.lemmas.Slice.{between_is, between-put_mid, drop-put_mid, take-put_mid_below}
 use Rattle.std.proofs.lemmas.Bool.{cases_eq, cases_order, eq-eqb, ne_eqb, cond-true, cond-false, cond_both}
-use Rattle.std.specs.List.{AllByRecursion as All}
+use Rattle.std.specs.List.{AllByRecursion}
 use Rattle.std.proofs.ByRecursion.{All-from_get_or, All-take, All-drop}
 use Rattle.drive.specs.Each.{each, all_bytes, holds_bytes}
 use Rattle.drive.proofs.EachLaws.{each_from_all, each_set, all_bytes_from}
@@ -78,7 +78,7 @@ pub states_sized : (bytes marks : List ℕ) → all_bytes bytes ≡ true → eac
 states_sized bytes marks h =
     let byte : ℕ → Bool = λ b. ltb b 256 in
     let Byte : ℕ → Type 0 = λ b. byte b ≡ true in
-    let all : All Byte bytes = all_from_each byte bytes h in
+    let all : AllByRecursion Byte bytes = all_from_each byte bytes h in
     let part : (a : ℕ) → all_bytes (take 512 (drop (a * 512) bytes)) ≡ true =
     λ a. each_from_all byte (take 512 (drop (a * 512) bytes)) (All-take Byte 512 (drop (a * 512) bytes) (All-drop Byte (a * 512) bytes all)) in
     let Sized : State → Type 0 = λ s. holds_bytes s ≡ true in

@@ -1,7 +1,7 @@
 -- The meaning of each kind of drive is well formed.
 use Rattle.std.specs.Prelude.{◌≡◌, ℕ, zero, suc, ◌*◌, ◌<◌, Bool, true, false, cond, ltb, List, [], ◌∷◌, length, take, drop, ◌==◌, nat_lt, slice_index, slice_index_or}
 use Rattle.std.proofs.Common.{sym, subst, arith}
-use Rattle.std.specs.List.{AllByRecursion as All}
+use Rattle.std.specs.List.{AllByRecursion}
 use Rattle.std.proofs.lemmas.List.FromFn.{length-map-range_with_len, get_or-map-range_with_len}
 use Rattle.std.proofs.ByRecursion.{All-get_or, All-weaker}
 use Rattle.std.proofs.lemmas.List.{length-take, length-drop}
@@ -17,7 +17,7 @@ use Rattle.drive.specs.Meaning.{State, readable, spoiled, Write, EveryWrite, Rec
 use Rattle.drive.specs.Queues.{front, line}
 use Rattle.drive.specs.Surfaces.{extent, cell, states, disk}
 
-pub all_from_each : {X : Type 0} (test : X → Bool) (xs : List X) → each test xs ≡ true → All (λ x. test x ≡ true) xs
+pub all_from_each : {X : Type 0} (test : X → Bool) (xs : List X) → each test xs ≡ true → AllByRecursion (λ x. test x ≡ true) xs
 unfolding each
 all_from_each test [] h = tt
 all_from_each test (x ∷ xs) h = let p = and_parts (test x) (each test xs) h in (p.0, all_from_each test xs p.1)

@@ -1,6 +1,6 @@
 -- What a drive means: a settled state for each address, the writes outstanding, and the wear.
 use Rattle.std.specs.Prelude.{◌≡◌, ℕ, ◌+◌, ◌<◌, ◌≤◌, Bool, false, cond, ◌||◌, List, [], ◌∷◌, ◌++◌, length, take, drop, ◌==◌, slice_index_or, slice_set}
-use Rattle.std.specs.List.{AllByRecursion as All}
+use Rattle.std.specs.List.{AllByRecursion}
 
 -- what lies at an address: a record's bytes, or nothing that can be read
 pub data State : Type 0 where
@@ -71,7 +71,7 @@ EveryWrite P (w ∷ ws) = P w × EveryWrite P ws
 
 -- the bytes of a record: 512 numbers below 256
 abbrev pub RecordBytes : List ℕ → Type 0
-RecordBytes bs = (length bs ≡ 512) × All (λ b. b < 256) bs
+RecordBytes bs = (length bs ≡ 512) × AllByRecursion (λ b. b < 256) bs
 
 abbrev pub WellFormedState : State → Type 0
 WellFormedState (readable bs) = RecordBytes bs

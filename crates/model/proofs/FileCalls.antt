@@ -1,6 +1,6 @@
 -- The calls on tickets, files and slots keep what holds of a volume.
 use Rattle.std.proofs.Common.{◌≡◌, ℕ, zero, suc, ◌^◌, ◌<◌, Bool, true, false, cond, not, ◌&&◌, ltb, List, [], ◌∷◌, map, length, get_or, replicate, Some, None, Option, sym, refl, ap, ◌∙◌, subst, inl, inr, arith}
-use Rattle.std.specs.List.{AllByRecursion as All}
+use Rattle.std.specs.List.{AllByRecursion}
 use Rattle.std.proofs.lemmas.List.{length-map, length-set}
 use Rattle.std.proofs.lemmas.Bool.{cases_eq, cases_Bool, eqb-true, and_parts, not-true, ltb-true, or_parts, eq-eqb, ne_eqb, true≢false}
 use Rattle.drive.specs.Meaning.{State, readable, Write, Meaning, shown, pending, posted}
@@ -254,7 +254,7 @@ module _ (g : Shape) (d : Meaning) where
         },
       )
 
-  pub place_keeps : (r : Rules) (v : Memory) (bs : List ℕ) (i p t x : ℕ) → All (λ b. b < 256) bs → Good g d v → Meets (place_plan r bs i p t x d v) Keeps
+  pub place_keeps : (r : Rules) (v : Memory) (bs : List ℕ) (i p t x : ℕ) → AllByRecursion (λ b. b < 256) bs → Good g d v → Meets (place_plan r bs i p t x d v) Keeps
   unfolding place_plan
   place_keeps r v bs i p t x bytes (o, I) =
       ask_meets Keeps _ _ _ λ n. ask_meets Keeps _ _ _ λ work. need_meets Keeps _ _ _ λ f file. need_meets Keeps _ _ _ λ u q. ask_meets Keeps _ _ _ λ k.

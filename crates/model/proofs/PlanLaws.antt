@@ -1,6 +1,6 @@
 -- The laws of the plans.
 use Rattle.std.proofs.Common.{◌≡◌, ℕ, zero, suc, ◌+◌, ◌-◌, ◌<◌, ◌≤◌, min, Bool, true, false, cond, not, ◌&&◌, ◌||◌, eqb, ltb, leb, ◌⊎◌, List, [], ◌∷◌, ◌++◌, map, length, get_or, take, set, replicate, Some, None, Ok, Err, count_by, Option, sym, refl, ap, ◌∙◌, subst, inl, inr, arith}
-use Rattle.std.specs.List.{range_with_len, AllByRecursion as All}
+use Rattle.std.specs.List.{range_with_len, AllByRecursion}
 use Rattle.std.proofs.ByRecursion.{All-get_or, All-from_get_or, All-weaker}
 use Rattle.std.proofs.lemmas.List.Sums.{sum_by-cons}
 use Rattle.std.proofs.lemmas.List.{append-nil, length-take, get_or-take, length-map, get_or-map, get_or_past, get_or-set_same}
@@ -357,7 +357,7 @@ module _ (bits : List ℕ) (first : ℕ) where
   free_wider : (r n a : ℕ) → FreeThere (r + 1) n a → FreeThere r (suc n) a
   free_wider r n a h = record { least = omega arith; most = omega arith; on = h.on }
 
-  all_free_there : (r n : ℕ) → All (FreeThere r n) (free_from bits first r n)
+  all_free_there : (r n : ℕ) → AllByRecursion (FreeThere r n) (free_from bits first r n)
   unfolding free_from
   all_free_there r zero = tt
   all_free_there r (suc n) =
@@ -453,7 +453,7 @@ abbrev Covered : ℕ → ℕ → Type 0
 Covered k a = (first_of k ≤ a) × (a < first_of k + 3968)
 
 -- the bits with covered addresses off
-marked_off : (k : ℕ) (as' bits : List ℕ) → All (Covered k) as' → FittingBits bits
+marked_off : (k : ℕ) (as' bits : List ℕ) → AllByRecursion (Covered k) as' → FittingBits bits
     → ((r : ℕ) → r < 3968 → bit (all_marked k 0 as' bits) r ≡ (bit bits r && not (among (first_of k + r) as'))) × FittingBits (all_marked k 0 as' bits)
 marked_off k [] bits h fit = (λ r lt. sym (and_true (bit bits r)), fit)
   where

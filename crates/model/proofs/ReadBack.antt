@@ -1,6 +1,6 @@
 -- What is read from the control records that a volume writes, and which records of a drive can be read as one.
 use Rattle.std.proofs.Common.{◌≡◌, ℕ, ◌^◌, ◌<◌, ◌&&◌, List, [], ◌∷◌, length, drop, replicate, Some, None, sym, refl, ap, ◌∙◌, subst, inl, inr, arith}
-use Rattle.std.specs.List.{AllByRecursion as All}
+use Rattle.std.specs.List.{AllByRecursion}
 use Rattle.std.proofs.ByRecursion.{All-from_get_or}
 use Rattle.std.proofs.lemmas.List.{length-append, get_or_past, get_or-replicate}
 use Rattle.std.proofs.lemmas.Bool.{and_parts, cases_lt, cond-true}
@@ -27,7 +27,7 @@ use Rattle.model.proofs.Possible.{Wrote, Possible}
 
 -- ---- what is written are the bytes of a record
 
-bytes_fit : (ws : List ℕ) → All (λ b. b < 256) (unwords ws)
+bytes_fit : (ws : List ℕ) → AllByRecursion (λ b. b < 256) (unwords ws)
 bytes_fit [] = tt
 bytes_fit (w ∷ ws) = (omega arith, (omega arith, (omega arith, (omega arith, bytes_fit ws))))
 

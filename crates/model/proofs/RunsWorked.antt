@@ -1,6 +1,6 @@
 -- The worked runs, computed on the plans.
 use Rattle.std.proofs.Common.{◌≡◌, ℕ, zero, suc, ◌<◌, List, [], ◌∷◌, ◌++◌, drop, replicate, sym, refl, ◌∙◌, inl, arith}
-use Rattle.std.specs.List.{AllByRecursion as All}
+use Rattle.std.specs.List.{AllByRecursion}
 use Rattle.drive.specs.Meaning.{spoiled, settled_at}
 use Rattle.record.specs.declared.label.LabelState.TheVariants.{Closed, InUse}
 use Rattle.record.specs.Control.{control}
@@ -58,7 +58,7 @@ the_worked_run_comes_out = record { says = refl; balance_takes = refl; place_pos
 
 -- ---- the worked run as a history
 
-bytes_fit : (n : ℕ) → All (λ b. b < 256) (replicate n 1)
+bytes_fit : (n : ℕ) → AllByRecursion (λ b. b < 256) (replicate n 1)
 bytes_fit zero = tt
 bytes_fit (suc n) = (omega arith, bytes_fit n)
 

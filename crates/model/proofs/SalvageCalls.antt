@@ -1,6 +1,6 @@
 -- Salvage keeps what holds of a volume, and so does every call.
 use Rattle.std.proofs.Common.{◌≡◌, ℕ, zero, suc, ◌+◌, ◌-◌, ◌^◌, ◌<◌, ◌≤◌, Bool, true, false, cond, not, ◌&&◌, ◌||◌, eqb, List, [], ◌∷◌, ◌++◌, length, get_or, Some, None, Option, sym, refl, ap, ◌∙◌, subst, inl, inr, arith}
-use Rattle.std.specs.List.{AllByRecursion as All}
+use Rattle.std.specs.List.{AllByRecursion}
 use Rattle.std.proofs.lemmas.List.{nil_from_length}
 use Rattle.std.proofs.lemmas.Bool.{cases_eq, cases_Bool, eqb-true, eqb-false, eq-eqb, ne_eqb, and_parts, and_from, and_right, or_left, or_right, or_from, not-true, not_from_true, true≢false}
 use Rattle.drive.specs.Meaning.{State, readable, Write, Meaning, size, owed, shown, any_to, pending, RecordBytes}
@@ -64,10 +64,10 @@ module _ (r : Region) where
   mended_length kept (a ∷ as') =
       slot_mended (λ ys. length ys ≡ suc (length as')) kept a as' (λ _ _. ap suc (mended_length (a ∷ kept) as')) (ap suc (mended_length kept as'))
 
-  mended_fit : ((a : ℕ) → within r a ≡ true → a < 2 ^ 16) → (kept xs : List ℕ) → All (λ a. a < 2 ^ 16) (mended_slots r kept xs)
+  mended_fit : ((a : ℕ) → within r a ≡ true → a < 2 ^ 16) → (kept xs : List ℕ) → AllByRecursion (λ a. a < 2 ^ 16) (mended_slots r kept xs)
   mended_fit small kept [] = tt
   mended_fit small kept (a ∷ as') =
-      slot_mended (λ ys. All (λ b. b < 2 ^ 16) ys) kept a as' (λ w _. (small a w, mended_fit small (a ∷ kept) as')) (omega arith, mended_fit small kept as')
+      slot_mended (λ ys. AllByRecursion (λ b. b < 2 ^ 16) ys) kept a as' (λ w _. (small a w, mended_fit small (a ∷ kept) as')) (omega arith, mended_fit small kept as')
 
   -- what is kept already stands there no more
   mended_apart : (kept xs : List ℕ) (x : ℕ) → among x kept ≡ true → 0 < x → among x (mended_slots r kept xs) ≡ false

@@ -1,6 +1,6 @@
 -- Histories of calls, polls and power cuts on a volume made new.
 use Rattle.std.specs.Prelude.{◌≡◌, ℕ, ◌^◌, ◌<◌, Bool, true, false, cond, ◌⊎◌, List, [], ◌∷◌, Some, None, Option, ◌==◌}
-use Rattle.std.specs.List.{AllByRecursion as All}
+use Rattle.std.specs.List.{AllByRecursion}
 use Rattle.drive.specs.Cuts.{Image}
 use Rattle.drive.specs.Meaning.{State, readable, Write, Meaning, posted, settled_at}
 use Rattle.record.specs.Entries.{free_entry}
@@ -22,7 +22,7 @@ History = List Event
 -- a call's arguments fit their types: a meter number has 32 bits, an address 16, a page's bytes 8
 abbrev pub Fitting : Call → Type 0
 Fitting (create n f e meter) = meter < 2 ^ 32
-Fitting (place bs f p t a) = (a < 2 ^ 16) × All (λ b. b < 256) bs
+Fitting (place bs f p t a) = (a < 2 ^ 16) × AllByRecursion (λ b. b < 256) bs
 Fitting (deposit t a) = a < 2 ^ 16
 Fitting (open' n) = Unit {0}
 Fitting (activate n f e) = Unit {0}

@@ -1,7 +1,7 @@
 -- The walk over a record's words, and what a control record is.
 use Rattle.std.proofs.Common.{◌≡◌, ℕ, suc, ◌+◌, ◌/◌, ◌^◌, ◌<◌, ◌≤◌, true, cond, eqb, List, [], ◌∷◌, map, length, get_or, drop, sym, refl, ap, ◌∙◌, ap₂, add-one, arith}
 use Rattle.std.specs.Simd.{first_chunks}
-use Rattle.std.specs.List.{AllByRecursion as All}
+use Rattle.std.specs.List.{AllByRecursion}
 use Rattle.std.proofs.ByRecursion.{All-from_get_or}
 use Rattle.std.proofs.lemmas.List.{at_drop_more, get_or-map, length-map}
 use Rattle.std.proofs.lemmas.Bool.{eq-eqb, ne_eqb, cond_both, and_from, and_parts, eqb-true}
@@ -52,7 +52,7 @@ sum_fits (w ∷ ws) i s h =
     sum_fits ws (suc i) (cond (eqb i 1) s (added s w)) (cond_both (eqb i 1) s (added s w) (λ x. x < 2 ^ 32) (λ _. h) (λ _. omega arith))
 
 abbrev pub Fit : List ℕ → Type 0
-Fit ws = All (λ w. w < 2 ^ 32) ws
+Fit ws = AllByRecursion (λ w. w < 2 ^ 32) ws
 
 -- the words of a control record
 pub control_words : ℕ → ℕ → List ℕ → List ℕ

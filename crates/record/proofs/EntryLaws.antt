@@ -1,7 +1,7 @@
 -- The layout of an entry, step by step, and its laws.
 use Rattle.std.proofs.Common.{◌≡◌, ℕ, suc, ◌+◌, ◌*◌, ◌/◌, ◌%◌, ◌^◌, ◌<◌, ◌≤◌, true, ◌&&◌, List, [], ◌∷◌, ◌++◌, map, length, get_or, take, drop, set, replicate, Some, sym, refl, ap, ◌∙◌, subst, ap₂, arith}
 use Rattle.std.specs.Simd.{first_chunks}
-use Rattle.std.specs.List.{between, AllByRecursion as All}
+use Rattle.std.specs.List.{between, AllByRecursion}
 use lib.Seq.{paste}
 use Rattle.std.proofs.lemmas.List.{take_all, take_at, take_more, take_more_set, take-append-drop, drop_at, drop_more, drop-drop, length-take, length-drop, length-append, get_or-map}
 use Rattle.std.proofs.ByRecursion.{All-append, All-from_get_or, All-get_or, All-take, All-drop}
@@ -68,7 +68,7 @@ slots_all id e l =
     let a : take 32 (pack e.slots) ≡ pack e.slots = take_all 32 (pack e.slots) (omega arith) in
     ap (λ x. id ∷ 0 ∷ e.meter ∷ 0 ∷ 0 ∷ 0 ∷ 0 ∷ 0 ∷ (x ++ replicate 88 0)) a
 
-pub pack_fits : (hs : List ℕ) → All (λ a. a < 2 ^ 16) hs → Fit (pack hs)
+pub pack_fits : (hs : List ℕ) → AllByRecursion (λ a. a < 2 ^ 16) hs → Fit (pack hs)
 pack_fits [] h = tt
 pack_fits (a ∷ []) h = tt
 pack_fits (a ∷ b ∷ hs) h = let ha = h.0 in let hb = h.1.0 in (omega arith, pack_fits hs h.1.1)
@@ -85,7 +85,7 @@ entry_body_fits e hm hs =
 abbrev pub two : List ℕ → ℕ
 two q = get_or q 0 0 * 256 + get_or q 1 0
 
-unpack_chunked : (q : List ℕ) → All (λ b. b < 256) q → length q % 4 ≡ 0 → unpack (words q) ≡ map two (first_chunks 2 (length q / 2) q)
+unpack_chunked : (q : List ℕ) → AllByRecursion (λ b. b < 256) q → length q % 4 ≡ 0 → unpack (words q) ≡ map two (first_chunks 2 (length q / 2) q)
 unpack_chunked [] h e = refl
 unpack_chunked (a ∷ []) h e = absurd (omega arith)
 unpack_chunked (a ∷ b ∷ []) h e = absurd (omega arith)
@@ -111,8 +111,8 @@ pub get_or_slots : (p : List ℕ) (qs : List (List ℕ)) (k : ℕ) → length p 
 get_or_slots p qs k l bytes e h =
     let q = take 128 (drop 32 p) in
     let n = length_part p l in
-    let all : All (λ b. b < 256) p = All-from_get_or (λ b. b < 256) p 0 (λ i _. bytes i) in
-    let some : All (λ b. b < 256) q = All-take (λ b. b < 256) 128 (drop 32 p) (All-drop (λ b. b < 256) 32 p all) in
+    let all : AllByRecursion (λ b. b < 256) p = All-from_get_or (λ b. b < 256) p 0 (λ i _. bytes i) in
+    let some : AllByRecursion (λ b. b < 256) q = All-take (λ b. b < 256) 128 (drop 32 p) (All-drop (λ b. b < 256) 32 p all) in
     let w : words q ≡ between 8 40 (words p) = words_take 32 (drop 32 p) ∙ ap (take 32) (words_drop 8 p) in
     let u : unpack (between 8 40 (words p)) ≡ map two qs = ap unpack (sym w) ∙ (unpack_chunked q some (omega arith) ∙ ap (map two) (sym e)) in
     rw u (get_or-map two qs k [] 0 h)
@@ -135,7 +135,7 @@ copied_all xs ys k hx hy e = sym (take_all k xs hx) ∙ (e ∙ take_all k ys hy)
 
 -- ---- what is written is read back
 
-unpack_pack : (hs : List ℕ) → length hs % 2 ≡ 0 → All (λ a. a < 2 ^ 16) hs → unpack (pack hs) ≡ hs
+unpack_pack : (hs : List ℕ) → length hs % 2 ≡ 0 → AllByRecursion (λ a. a < 2 ^ 16) hs → unpack (pack hs) ≡ hs
 unpack_pack [] e h = refl
 unpack_pack (a ∷ []) e h = absurd (omega arith)
 unpack_pack (a ∷ b ∷ hs) e h =
@@ -208,7 +208,7 @@ pack_unpack : (ws : List ℕ) → pack (unpack ws) ≡ ws
 pack_unpack [] = refl
 pack_unpack (w ∷ ws) = let e : w / 65536 * 65536 + w % 65536 ≡ w = omega arith in cc (pack_unpack ws)
 
-unpack_fits : (ws : List ℕ) → Fit ws → All (λ a. a < 2 ^ 16) (unpack ws)
+unpack_fits : (ws : List ℕ) → Fit ws → AllByRecursion (λ a. a < 2 ^ 16) (unpack ws)
 unpack_fits [] h = tt
 unpack_fits (w ∷ ws) h = let hw = h.0 in (omega arith, (omega arith, unpack_fits ws h.1))
 

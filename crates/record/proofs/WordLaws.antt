@@ -1,7 +1,7 @@
 -- Laws of words and of a record's bytes.
 use Rattle.std.proofs.Common.{◌≡◌, ℕ, zero, suc, ◌+◌, ◌-◌, ◌*◌, ◌/◌, ◌%◌, ◌^◌, ◌<◌, ◌≤◌, true, ◌&&◌, eqb, ◌≢◌, List, [], ◌∷◌, ◌++◌, length, get_or, take, drop, set, refl, ap, ◌∙◌, ap₂, suc-add, div-add-mod', arith}
 use native.Mathlib.Nat.{div-div-eq-div-mul}
-use Rattle.std.specs.List.{between, AllByRecursion as All}
+use Rattle.std.specs.List.{between, AllByRecursion}
 use Rattle.std.proofs.ByRecursion.{All-get_or}
 use Rattle.std.proofs.lemmas.List.{get_or-set_same, get_or-set_other, length-append, length-take, length-drop, drop_more}
 use Rattle.record.specs.Words.{be, be_bytes, word, put, words, unwords, zeros}
@@ -64,11 +64,11 @@ pub word_put_other : (p : List ℕ) (i j w : ℕ) → 4 * i + 4 ≤ length p →
 word_put_other p i j w h fit ne = rw (words_put p i w h fit) (get_or-set_other (words p) i j w 0 ne)
 
 -- words and bytes are each other's inverse
-pub words_unwords : (ws : List ℕ) → All (λ w. w < 2 ^ 32) ws → words (unwords ws) ≡ ws
+pub words_unwords : (ws : List ℕ) → AllByRecursion (λ w. w < 2 ^ 32) ws → words (unwords ws) ≡ ws
 words_unwords [] h = refl
 words_unwords (w ∷ ws) h = cc (be_of_bytes w h.0, words_unwords ws h.1)
 
-pub unwords_words : (p : List ℕ) → All (λ b. b < 256) p → length p % 4 ≡ 0 → unwords (words p) ≡ p
+pub unwords_words : (p : List ℕ) → AllByRecursion (λ b. b < 256) p → length p % 4 ≡ 0 → unwords (words p) ≡ p
 unwords_words [] h e = refl
 unwords_words (a ∷ []) h e = absurd (omega arith)
 unwords_words (a ∷ b ∷ []) h e = absurd (omega arith)
@@ -121,7 +121,7 @@ length_unwords [] = refl
 length_unwords (w ∷ ws) = omega (arith, length_unwords ws)
 
 -- a word of bytes fits
-pub word_fits : (p : List ℕ) (i : ℕ) → All (λ b. b < 256) p → 4 * i + 4 ≤ length p → word p i < 2 ^ 32
+pub word_fits : (p : List ℕ) (i : ℕ) → AllByRecursion (λ b. b < 256) p → 4 * i + 4 ≤ length p → word p i < 2 ^ 32
 word_fits p i h l =
     let a = All-get_or (λ b. b < 256) p (4 * i) 0 (omega arith) h in
     let b = All-get_or (λ b. b < 256) p (4 * i + 1) 0 (omega arith) h in

@@ -1,6 +1,6 @@
 -- Laws of the layouts.
 use Rattle.std.specs.Prelude.{◌≡◌, ℕ, ◌+◌, ◌^◌, ◌<◌, ◌≤◌, true, false, cond, List, length, Some, Decides, MatchOption, ◌==◌, ◌≢◌, slice_index}
-use Rattle.std.specs.List.{AllByRecursion as All}
+use Rattle.std.specs.List.{AllByRecursion}
 use Rattle.drive.specs.Meaning.{RecordBytes}
 use Rattle.record.specs.declared.label.Label.{Label}
 use Rattle.record.specs.declared.section.Section.{Section}
@@ -21,7 +21,7 @@ pub record FittingLabel (l : Label) : Type 0 where
   pub trouble : l.trouble < 2 ^ 32
 
 abbrev pub FittingBits : List ℕ → Type 0
-FittingBits bits = (length bits ≡ 124) × All (λ w. w < 2 ^ 32) bits
+FittingBits bits = (length bits ≡ 124) × AllByRecursion (λ w. w < 2 ^ 32) bits
 
 pub record FittingSpan (s : Span) : Type 0 where
   pub first : s.first < 2 ^ 16
@@ -30,7 +30,7 @@ pub record FittingSpan (s : Span) : Type 0 where
 pub record FittingEntry (e : Entry) : Type 0 where
   pub meter : e.meter < 2 ^ 32
   pub all : length e.slots ≡ 64
-  pub each : All (λ a. a < 2 ^ 16) e.slots
+  pub each : AllByRecursion (λ a. a < 2 ^ 16) e.slots
 
 -- ---- what is written is read back
 

@@ -1,6 +1,6 @@
 -- Steps that several calls share on the way to their plans.
 use Rattle.std.proofs.Common.{◌≡◌, ℕ, ◌<◌, Bool, cond, eqb, ltb, List, length, get_or, Some, None, Ok, Err, Option, Result, sym, refl, ap, ◌∙◌, ap₂, inl, inr, arith, w8, Fits}
-use Rattle.std.specs.List.{AllByRecursion as All}
+use Rattle.std.specs.List.{AllByRecursion}
 use Rattle.std.proofs.ByRecursion.{All-from_get_or}
 use Rattle.std.proofs.lemmas.Bool.{cases_eq, cases_lt, le-ltb, ne_eqb}
 use Rattle.drive.specs.declared.fault.Fault.{Fault}
@@ -34,7 +34,7 @@ remembered g c v u reply (Err f) fits is same drive =
     both v u e f = ap₂ {C = Volume} (λ m d. record { drive = d; memory = m }) e f
 
 -- the bytes of a program are below 256
-pub bytes_fit : (bs : List ℕ) → ((i : ℕ) → Fits w8 (get_or bs i 0)) → All (λ b. b < 256) bs
+pub bytes_fit : (bs : List ℕ) → ((i : ℕ) → Fits w8 (get_or bs i 0)) → AllByRecursion (λ b. b < 256) bs
 bytes_fit bs h = All-from_get_or (λ b. b < 256) bs 0 (λ i _. (h i).fits)
 
 -- a slot of a file is below 64
