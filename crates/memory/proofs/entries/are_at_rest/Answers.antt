@@ -6,11 +6,11 @@ use Rattle.memory.proofs.TableLaws.{rest_next, not_at_rest}
 use Rattle.memory.proofs.entries.are_at_rest.Goals as goal
 use Rattle.memory.proofs.entries.are_at_rest.Goals.{in-Empty, in-Live}
 
-pub returns-in-default : goal.returns-in-default
-returns-in-default c =
+pub returns-in_default : goal.returns-in_default
+returns-in_default c =
     let ss = c.args.slots.now in
     let i = c.loop-slot.slot-index in
-    let rest = not_at_rest (get_or ss i Empty) c.in-default.not-Empty c.in-default.not-Live in
+    let rest = not_at_rest (get_or ss i Empty) c.in_default.not-Empty c.in_default.not-Live in
     sym (ap (λ b. b && all_at_rest (drop (i + 1) ss)) rest) ∙ (sym (rest_next ss i _ c.loop-slot-test.true refl) ∙ c.loop-slot.invariant)
 
 pub loop-slot-preserved : goal.loop-slot-preserved

@@ -4,7 +4,7 @@ use Rattle.std.proofs.lemmas.Bool.{eq-eqb, ne_eqb}
 use Rattle.model.specs.Memory.{in_some_file}
 use Rattle.memory.proofs.TableLaws.{file_next}
 use Rattle.memory.proofs.entries.is_in_some_file.Goals as goal
-use Rattle.memory.proofs.entries.is_in_some_file.Goals.{in-Some+else-used-number, in-default}
+use Rattle.memory.proofs.entries.is_in_some_file.Goals.{in-Some+else-used-number, in_default}
 
 pub returns-then-used-number : goal.returns-then-used-number
 returns-then-used-number c =
@@ -23,7 +23,7 @@ loop-file-preserved c =
       | in-Some+else-used-number w ↦
           let other = ne_eqb w.in-Some.used.entry n w.if-used-number.false in
           sym (ap (λ b. b || in_some_file (drop (i + 1) fs) n) other) ∙ (sym (file_next fs i n _ c.loop-file-test.true w.in-Some.is) ∙ c.loop-file.invariant)
-      | in-default w ↦ sym (file_next fs i n _ c.loop-file-test.true w.in-default.is) ∙ c.loop-file.invariant
+      | in_default w ↦ sym (file_next fs i n _ c.loop-file-test.true w.in_default.is) ∙ c.loop-file.invariant
     ]
 
 pub returns : goal.returns

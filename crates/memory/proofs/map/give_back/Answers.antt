@@ -7,7 +7,7 @@ use Rattle.memory.proofs.map.give_back.Goals as goal
 pub loop-a-preserved : goal.loop-a-preserved
 loop-a-preserved g c =
     let bits = c.loop-a.section.bits in
-    let xs = c.as-slice-a-items.result.now in
+    let xs = c.as_slice-a-items.result.now in
     let i = c.loop-a.a-index in
     let k = c.args.k in
     let more : all_marked k 1 (drop i xs) bits ≡ all_marked k 1 (drop (i + 1) xs) (marked bits (get_or xs i 0 - 3968 * k) 1) =
@@ -18,6 +18,6 @@ loop-a-preserved g c =
 
 pub returns : goal.returns
 returns g c =
-    let all = at_drop_all (λ l. all_marked c.args.k 1 l c.loop-a.section.bits) c.as-slice-a-items.result.now c.loop-a.a-index c.loop-a-test.false in
-    let same = c.as-slice-a-items.ensures.same in
+    let all = at_drop_all (λ l. all_marked c.args.k 1 l c.loop-a.section.bits) c.as_slice-a-items.result.now c.loop-a.a-index c.loop-a-test.false in
+    let same = c.as_slice-a-items.ensures.same in
     cc

@@ -6,18 +6,18 @@ use Rattle.memory.specs.Numbers.{listed}
 use Rattle.memory.proofs.MapLaws.{lowest_inside, next_taken, none_left}
 use Rattle.memory.proofs.map.take_lowest.Goals as goal
 
-pub overflow-add-first : goal.overflow-add-first
-overflow-add-first g c =
+pub overflow_add-first : goal.overflow_add-first
+overflow_add-first g c =
     let h = lowest_inside c.loop-section.section.bits c.loop-section.from c.in-Some.r c.loop-section.invariant.0 c.in-Some.ensures in
     omega (arith, c.from.ensures)
 
-pub overflow-cast-first-in-loop-section : goal.overflow-cast-first-in-loop-section
-overflow-cast-first-in-loop-section g c =
+pub overflow_cast-first-in-loop-section : goal.overflow_cast-first-in-loop-section
+overflow_cast-first-in-loop-section g c =
     let h = lowest_inside c.loop-section.section.bits c.loop-section.from c.in-Some.r c.loop-section.invariant.0 c.in-Some.ensures in
     omega (arith, c.from.ensures)
 
-pub overflow-add-from : goal.overflow-add-from
-overflow-add-from g c =
+pub overflow_add-from : goal.overflow_add-from
+overflow_add-from g c =
     let h = lowest_inside c.loop-section.section.bits c.loop-section.from c.in-Some.r c.loop-section.invariant.0 c.in-Some.ensures in
     omega arith
 
@@ -48,12 +48,12 @@ loop-section-preserved g c =
     let v3 = c.loop-section.invariant.3 in
     (omega arith, omega (arith, c.push.ensures.len), cc, cc)
 
-pub returns-in-default : goal.returns-in-default
-returns-in-default g c =
+pub returns-in_default : goal.returns-in_default
+returns-in_default g c =
     let bits = c.loop-section.section.bits in
     let k = c.args.k in
     let F = listed c.loop-section.taken in
-    let none = none_left bits (3968 * k) c.loop-section.from (c.args.most - length F) c.in-default.ensures in
+    let none = none_left bits (3968 * k) c.loop-section.from (c.args.most - length F) c.in_default.ensures in
     let nil = append-nil F in
     let same = ap (λ l. all_marked k 0 l bits) none in
     let v2 = c.loop-section.invariant.2 in

@@ -5,14 +5,14 @@ use Rattle.memory.specs.declared.numbers.Numbers.{Numbers}
 use Rattle.memory.specs.Numbers.{listed}
 use Rattle.memory.proofs.NumberLaws.{given_in, given_out, stay_in, stay_out}
 use Rattle.memory.proofs.numbers.Numbers.take_section.Goals as goal
-use Rattle.memory.proofs.numbers.Numbers.take_section.Goals.{then-len-most+then-is-covered, else-len-most, else-len-most-via-then-len-most+else-is-covered, else-len-most-via-else-len-most}
+use Rattle.memory.proofs.numbers.Numbers.take_section.Goals.{then-len-most+then-is_covered, else-len-most, else-len-most-via-then-len-most+else-is_covered, else-len-most-via-else-len-most}
 
 abbrev size : {n : ℕ} → Numbers n → ℕ
 size {n} v = length (listed v)
 
 pub loop-a-preserved : goal.loop-a-preserved
 loop-a-preserved g c =
-    let xs = c.as-slice-a-items.result.now in
+    let xs = c.as_slice-a-items.result.now in
     let i = c.loop-a.a-index in
     let k = c.args.k in
     let a = get_or xs i 0 in
@@ -25,9 +25,9 @@ loop-a-preserved g c =
     let v1 = c.loop-a.invariant.1 in
     let v2 = c.loop-a.invariant.2 in
     elim c.if-len-most.branch [
-      | then-len-most+then-is-covered w ↦
+      | then-len-most+then-is_covered w ↦
           let more = w.if-len-most.true in
-          let t = sym w.is-covered.ensures ∙ w.if-is-covered.true in
+          let t = sym w.is_covered.ensures ∙ w.if-is_covered.true in
           let e = w.push.ensures.after in
           let s = ap size w.taken-is in
           let o = ap size w.others-is in
@@ -38,7 +38,7 @@ loop-a-preserved g c =
       | else-len-most w ↦
           let t : (n ≡ 0) ⊎ (eqb (cover a) k ≡ false) =
           elim w.else-len-most.branch [
-            | else-len-most-via-then-len-most+else-is-covered v ↦ inr (sym v.is-covered.ensures ∙ v.if-is-covered.false)
+            | else-len-most-via-then-len-most+else-is_covered v ↦ inr (sym v.is_covered.ensures ∙ v.if-is_covered.false)
             | else-len-most-via-else-len-most v ↦ inl (omega (arith, v.if-len-most.false, c.len.ensures.same))
           ] in
           let e = w.push-else-len-most.ensures.after in
@@ -52,8 +52,8 @@ loop-a-preserved g c =
 
 pub returns : goal.returns
 returns g c =
-    let same = c.as-slice-a-items.ensures.same in
-    let d = drop_all c.loop-a.a-index c.as-slice-a-items.result.now c.loop-a-test.false in
+    let same = c.as_slice-a-items.ensures.same in
+    let d = drop_all c.loop-a.a-index c.as_slice-a-items.result.now c.loop-a-test.false in
     let f = append-nil (listed c.loop-a.taken) in
     let k = append-nil (listed c.loop-a.others) in
     let v1 = rw d at c.loop-a.invariant.1 in

@@ -1,5 +1,5 @@
 use Rattle.std.proofs.Common.{◌≡◌, ◌+◌, ◌-◌, ◌++◌, length, drop}
-use Rattle.model.specs.Stock.{goal as given-of, staying}
+use Rattle.model.specs.Stock.{given as given-of, staying}
 use Rattle.memory.specs.Numbers.{listed}
 use Rattle.memory.proofs.numbers.Numbers.take_section.Given as goal
 

@@ -12,11 +12,11 @@ use Rattle.memory.proofs.StateLaws.{numbered_set}
 use Rattle.memory.proofs.TableLaws.{unchanged_file, given_back, slot_refused, slot_accepted}
 use Rattle.memory.proofs.state.Memory.clear.Goals as goal
 
-pub returns-in-err-ask-open : goal.returns-in-err-ask-open
+pub returns-in_err-ask_open : goal.returns-in_err-ask_open
 unfolding clear_plan
-returns-in-err-ask-open c =
-    let p = err_from_is_err_and c.from-residual.result c.from-residual.ensures.1 in
-    rw (p.1, p.2) (record { planned = asked_no _ _ _ _ c.in-err-ask-open.ensures; same = refl })
+returns-in_err-ask_open c =
+    let p = err_from_is_err_and c.from_residual.result c.from_residual.ensures.1 in
+    rw (p.1, p.2) (record { planned = asked_no _ _ _ _ c.in_err-ask_open.ensures; same = refl })
 
 pub returns-then-file-ge-FILES : goal.returns-then-file-ge-FILES
 unfolding clear_plan
@@ -24,33 +24,33 @@ returns-then-file-ge-FILES c =
     let v = c.args.self.now in
     let none = get_or_past v.files c.args.file None (omega (arith, v.eight)) in
     record {
-      planned = asked_yes _ _ _ c.in-ok-ask-open.ensures ∙ (found_none _ _ _ (sym none) ∙ ap (λ f. refuse (told f)) (sym c.refused.ensures));
+      planned = asked_yes _ _ _ c.in_ok-ask_open.ensures ∙ (found_none _ _ _ (sym none) ∙ ap (λ f. refuse (told f)) (sym c.refused.ensures));
       same = refl;
     }
 
-pub returns-in-default : goal.returns-in-default
+pub returns-in_default : goal.returns-in_default
 unfolding clear_plan
-returns-in-default c =
+returns-in_default c =
     record {
-      planned = asked_yes _ _ _ c.in-ok-ask-open.ensures ∙ (found_none _ _ _ (sym c.in-default.is) ∙ ap (λ f. refuse (told f)) (sym c.refused-in-default.ensures));
+      planned = asked_yes _ _ _ c.in_ok-ask_open.ensures ∙ (found_none _ _ _ (sym c.in_default.is) ∙ ap (λ f. refuse (told f)) (sym c.refused-in_default.ensures));
       same = unchanged_file (view c.args.self.now) c.args.file;
     }
 
-pub invariant-of-self-2 : goal.invariant-of-self-2
-invariant-of-self-2 c =
+pub invariant_of-self-2 : goal.invariant_of-self-2
+invariant_of-self-2 c =
     let v = c.args.self.now in
     let i = c.args.file in
     let before : number_in (Some c.in-Some.used) < 3968 = rw c.in-Some.is at (v.numbered i) in
-    (v.few, (v.three, (v.four, (length-set v.files i _ ∙ v.eight, (v.settled, (v.limited, (numbered_set v.files i _ v.numbered (omega (arith, before, c.clear.ensures.kept)), tt)))))))
+    record { few = v.few; three = v.three; four = v.four; eight = length-set v.files i _ ∙ v.eight; settled = v.settled; limited = v.limited; numbered = numbered_set v.files i _ v.numbered (omega (arith, before, c.clear.ensures.kept)) }
 
-pub returns-in-err-clear : goal.returns-in-err-clear
+pub returns-in_err-clear : goal.returns-in_err-clear
 unfolding clear_plan
-returns-in-err-clear c =
-    let p = err_from_is_err_and c.from-residual-in-err-clear.result c.from-residual-in-err-clear.ensures.1 in
+returns-in_err-clear c =
+    let p = err_from_is_err_and c.from_residual-in_err-clear.result c.from_residual-in_err-clear.ensures.1 in
     let v = view c.args.self.now in
-    let k = slot_refused c.in-Some.used c.clear.new.file c.args.slot _ _ _ c.in-err-clear.ensures.changed in
+    let k = slot_refused c.in-Some.used c.clear.new.file c.args.slot _ _ _ c.in_err-clear.ensures.changed in
     rw (p.1, p.2) (record {
-      planned = asked_yes _ _ _ c.in-ok-ask-open.ensures ∙ (found_some _ _ _ _ (sym c.in-Some.is) ∙ k.0);
+      planned = asked_yes _ _ _ c.in_ok-ask_open.ensures ∙ (found_some _ _ _ _ (sym c.in-Some.is) ∙ k.0);
       same = given_back v c.args.file c.in-Some.used c.clear.new.file c.in-Some.is k.1;
     })
 
@@ -58,10 +58,10 @@ pub returns : goal.returns
 unfolding clear_plan
 returns c =
     let v = view c.args.self.now in
-    let k = slot_accepted c.in-Some.used c.clear.new.file c.args.slot _ _ c.in-ok-clear.ensures.changed in
+    let k = slot_accepted c.in-Some.used c.clear.new.file c.args.slot _ _ c.in_ok-clear.ensures.changed in
     record {
       planned =
-          asked_yes _ _ _ c.in-ok-ask-open.ensures ∙ (found_some _ _ _ _ (sym c.in-Some.is) ∙ (k.1
+          asked_yes _ _ _ c.in_ok-ask_open.ensures ∙ (found_some _ _ _ _ (sym c.in-Some.is) ∙ (k.1
           ∙ ap (λ y. keep done (with_file v c.args.file (Some y))) (sym k.2)));
       same = tt;
     }

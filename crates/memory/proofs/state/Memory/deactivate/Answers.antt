@@ -5,24 +5,24 @@ use Rattle.model.specs.Plans.{deactivate_plan}
 use Rattle.model.proofs.CarriedLaws.{asked_yes, asked_no, needed_some, needed_none}
 use Rattle.memory.proofs.state.Memory.deactivate.Goals as goal
 
-pub returns-in-err-ask-open : goal.returns-in-err-ask-open
+pub returns-in_err-ask_open : goal.returns-in_err-ask_open
 unfolding deactivate_plan
-returns-in-err-ask-open c =
-    let p = err_from_is_err_and c.from-residual.result c.from-residual.ensures.1 in
-    rw (p.1, p.2) (record { planned = asked_no _ _ _ _ c.in-err-ask-open.ensures; same = refl })
+returns-in_err-ask_open c =
+    let p = err_from_is_err_and c.from_residual.result c.from_residual.ensures.1 in
+    rw (p.1, p.2) (record { planned = asked_no _ _ _ _ c.in_err-ask_open.ensures; same = refl })
 
-pub returns-in-err-used : goal.returns-in-err-used
+pub returns-in_err-used : goal.returns-in_err-used
 unfolding deactivate_plan
-returns-in-err-used c =
-    let p = err_from_is_err_and c.from-residual-in-err-used.result c.from-residual-in-err-used.ensures.1 in
-    rw (p.1, p.2) (record { planned = asked_yes _ _ _ c.in-ok-ask-open.ensures ∙ needed_none _ _ _ _ c.in-err-used.ensures.found; same = refl })
+returns-in_err-used c =
+    let p = err_from_is_err_and c.from_residual-in_err-used.result c.from_residual-in_err-used.ensures.1 in
+    rw (p.1, p.2) (record { planned = asked_yes _ _ _ c.in_ok-ask_open.ensures ∙ needed_none _ _ _ _ c.in_err-used.ensures.found; same = refl })
 
-pub returns-in-err-ask-at-rest : goal.returns-in-err-ask-at-rest
+pub returns-in_err-ask_at_rest : goal.returns-in_err-ask_at_rest
 unfolding deactivate_plan
-returns-in-err-ask-at-rest c =
-    let p = err_from_is_err_and c.from-residual-in-err-ask-at-rest.result c.from-residual-in-err-ask-at-rest.ensures.1 in
+returns-in_err-ask_at_rest c =
+    let p = err_from_is_err_and c.from_residual-in_err-ask_at_rest.result c.from_residual-in_err-ask_at_rest.ensures.1 in
     rw (p.1, p.2) (record {
-      planned = asked_yes _ _ _ c.in-ok-ask-open.ensures ∙ (needed_some _ _ _ _ c.in-ok-used.ensures.found ∙ asked_no _ _ _ _ c.in-err-ask-at-rest.ensures);
+      planned = asked_yes _ _ _ c.in_ok-ask_open.ensures ∙ (needed_some _ _ _ _ c.in_ok-used.ensures.found ∙ asked_no _ _ _ _ c.in_err-ask_at_rest.ensures);
       same = refl;
     })
 
@@ -31,7 +31,7 @@ unfolding deactivate_plan
 returns c =
     record {
       planned =
-          asked_yes _ _ _ c.in-ok-ask-open.ensures ∙ (needed_some _ _ _ _ c.in-ok-used.ensures.found
-          ∙ (asked_yes _ _ _ c.in-ok-ask-at-rest.ensures ∙ ap (keep done) (sym c.release.ensures)));
+          asked_yes _ _ _ c.in_ok-ask_open.ensures ∙ (needed_some _ _ _ _ c.in_ok-used.ensures.found
+          ∙ (asked_yes _ _ _ c.in_ok-ask_at_rest.ensures ∙ ap (keep done) (sym c.release.ensures)));
       same = tt;
     }

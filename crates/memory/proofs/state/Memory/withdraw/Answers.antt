@@ -10,38 +10,38 @@ use Rattle.memory.specs.View.{view}
 use Rattle.memory.proofs.StateLaws.{lowest_is, withdrawing_some, withdrawing_none}
 use Rattle.memory.proofs.state.Memory.withdraw.Goals as goal
 
-pub returns-in-err-ask-open : goal.returns-in-err-ask-open
+pub returns-in_err-ask_open : goal.returns-in_err-ask_open
 unfolding withdraw_plan
-returns-in-err-ask-open c =
-    let p = err_from_is_err_and c.from-residual.result c.from-residual.ensures.1 in
-    rw (p.1, p.2) (record { planned = asked_no _ _ _ _ c.in-err-ask-open.ensures; same = refl })
+returns-in_err-ask_open c =
+    let p = err_from_is_err_and c.from_residual.result c.from_residual.ensures.1 in
+    rw (p.1, p.2) (record { planned = asked_no _ _ _ _ c.in_err-ask_open.ensures; same = refl })
 
-pub returns-in-default : goal.returns-in-default
+pub returns-in_default : goal.returns-in_default
 unfolding withdraw_plan
-returns-in-default c =
+returns-in_default c =
     record {
-      planned = asked_yes _ _ _ c.in-ok-ask-open.ensures ∙ (found_none _ _ _ c.in-default.ensures ∙ ap (λ f. refuse (told f)) (sym c.refused.ensures));
+      planned = asked_yes _ _ _ c.in_ok-ask_open.ensures ∙ (found_none _ _ _ c.in_default.ensures ∙ ap (λ f. refuse (told f)) (sym c.refused.ensures));
       same = refl;
     }
 
-pub returns-in-default-pop-oldest : goal.returns-in-default-pop-oldest
+pub returns-in_default-pop_oldest : goal.returns-in_default-pop_oldest
 unfolding withdraw_plan
-returns-in-default-pop-oldest c =
+returns-in_default-pop_oldest c =
     let v = view c.args.self.now in
-    let popped = c.in-default-pop-oldest.ensures.taken in
+    let popped = c.in_default-pop_oldest.ensures.taken in
     record {
       planned =
-          asked_yes _ _ _ c.in-ok-ask-open.ensures ∙ (found_some _ _ _ _ c.in-Some.ensures
-          ∙ (withdrawing_none v c.in-Some.ticket (listed c.pop-oldest.new.self) popped.0 popped.1
-          ∙ ap (λ r. keep r (with_service v (listed c.pop-oldest.new.self))) (sym c.shortage.ensures)));
+          asked_yes _ _ _ c.in_ok-ask_open.ensures ∙ (found_some _ _ _ _ c.in-Some.ensures
+          ∙ (withdrawing_none v c.in-Some.ticket (listed c.pop_oldest.new.self) popped.0 popped.1
+          ∙ ap (λ r. keep r (with_service v (listed c.pop_oldest.new.self))) (sym c.shortage.ensures)));
       same = tt;
     }
 
-pub fill-ticket-requires : goal.fill-ticket-requires
-fill-ticket-requires c =
+pub fill_ticket-requires : goal.fill_ticket-requires
+fill_ticket-requires c =
     let v = c.args.self.now in
     let h = lowest_is v.tickets c.in-Some.ticket c.in-Some.ensures in
-    let n = ap length c.in-Some-pop-oldest.ensures.taken in
+    let n = ap length c.in-Some-pop_oldest.ensures.taken in
     record { ticketed = omega (arith, h.0, v.four); room = omega (arith, n, v.few) }
 
 pub returns : goal.returns
@@ -50,8 +50,8 @@ returns c =
     let v = view c.args.self.now in
     record {
       planned =
-          asked_yes _ _ _ c.in-ok-ask-open.ensures ∙ (found_some _ _ _ _ c.in-Some.ensures
-          ∙ (withdrawing_some v c.in-Some.ticket c.in-Some-pop-oldest.address (listed c.pop-oldest.new.self) c.in-Some-pop-oldest.ensures.taken
-          ∙ ap (keep (granted c.in-Some.ticket c.in-Some-pop-oldest.address)) (sym c.fill-ticket.ensures)));
+          asked_yes _ _ _ c.in_ok-ask_open.ensures ∙ (found_some _ _ _ _ c.in-Some.ensures
+          ∙ (withdrawing_some v c.in-Some.ticket c.in-Some-pop_oldest.address (listed c.pop_oldest.new.self) c.in-Some-pop_oldest.ensures.taken
+          ∙ ap (keep (granted c.in-Some.ticket c.in-Some-pop_oldest.address)) (sym c.fill_ticket.ensures)));
       same = tt;
     }

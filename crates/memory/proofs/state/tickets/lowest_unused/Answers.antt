@@ -4,9 +4,9 @@ use Rattle.model.specs.Memory.{unused_from}
 use Rattle.memory.proofs.StateLaws.{unused_drop}
 use Rattle.memory.proofs.state.tickets.lowest_unused.Goals as goal
 
-pub returns-in-default : goal.returns-in-default
-returns-in-default c =
-    let here = ap (λ i. get_or c.args.tickets.now i None) (sym c.from.ensures) ∙ c.in-default.is in
+pub returns-in_default : goal.returns-in_default
+returns-in_default c =
+    let here = ap (λ i. get_or c.args.tickets.now i None) (sym c.from.ensures) ∙ c.in_default.is in
     sym (unused_drop c.args.tickets.now c.loop-t.t _ (omega arith) here) ∙ c.loop-t.invariant
 
 pub loop-t-preserved : goal.loop-t-preserved
