@@ -5,12 +5,11 @@ use Rattle.drive.specs.Meaning.{Meaning, size, shown}
 use Rattle.record.specs.declared.label.Label.{Label}
 use Rattle.record.specs.declared.label.LabelState.TheVariants.{Closed}
 use Rattle.record.specs.Regions.{page_region}
-use Rattle.model.specs.declared.mending.Unmended.{Unmended}
 use Rattle.model.specs.Volume.{label_bytes, entry_bytes}
 use Rattle.model.specs.Memory.{Memory}
 use Rattle.model.specs.Outcomes.{Rules, post, entry, section, ended}
 use Rattle.model.specs.Shown.{with_state, label_in_state}
-use Rattle.model.specs.Mending.{first_unmended, mended_section, first_inexact, is_salvage, end_or_section, map_or_entry, salvaging}
+use Rattle.model.specs.Mending.{Unmended, first_unmended, mended_section, first_inexact, is_salvage, end_or_section, map_or_entry, salvaging}
 use Rattle.mending.specs.Sought.{unmended_in, inexact_in}
 use Rattle.mending.proofs.InexactLaws.{exact}
 

@@ -8,10 +8,9 @@ use Rattle.record.specs.declared.label.Label.{Label}
 use Rattle.record.specs.Words.{same}
 use Rattle.record.specs.Regions.{within}
 use Rattle.record.specs.Entries.{among, whole_entry}
-use Rattle.model.specs.declared.mending.Unmended.{Unmended}
 use Rattle.model.specs.Volume.{entry_at, entry_bytes}
 use Rattle.model.specs.Shown.{bytes_in, entry_in_state}
-use Rattle.model.specs.Mending.{mended, shows, States, first_unmended, slots_or_none, named_from}
+use Rattle.model.specs.Mending.{Unmended, mended, shows, States, first_unmended, slots_or_none, named_from}
 use Rattle.mending.specs.Sought.{pages_of, form_of, unless_shown, unmended_in, named_in}
 use Rattle.mending.specs.Tallies.{noted, Tallies, Adds}
 use Rattle.mending.proofs.TallyLaws.{or_assoc, or_comm, or_none, among_joined, tallies_more}

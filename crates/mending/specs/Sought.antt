@@ -5,10 +5,10 @@ use Rattle.record.specs.declared.region.Region.{Region}
 use Rattle.record.specs.declared.entry.Entry.{Entry}
 use Rattle.record.specs.declared.label.Label.{Label}
 use Rattle.record.specs.Regions.{page_region}
-use Rattle.model.specs.declared.mending.Unmended.{Unmended}
+use Rattle.mending.specs.declared.unmended.Unmended.{Unmended as Found}
 use Rattle.model.specs.Volume.{entry_bytes}
 use Rattle.model.specs.Shown.{whole_entry_in_state}
-use Rattle.model.specs.Mending.{mended, shows, States, first_unmended, named_from, first_inexact}
+use Rattle.model.specs.Mending.{Unmended, mended, shows, States, first_unmended, named_from, first_inexact}
 
 abbrev pub pages_of : Label → Region
 pages_of l = page_region l.entries l.records
@@ -24,6 +24,11 @@ unless_shown l s x = cond (shows s (entry_bytes l.id x)) None (Some x)
 -- the lowest entry that does not show its mended form
 abbrev pub unmended_in : Label → States → Option Unmended
 unmended_in l s = first_unmended l.id (pages_of l) s [] 0 l.entries
+
+-- an unmended entry as the code has it
+abbrev pub as_found : Option Found → Option Unmended
+as_found None = None
+as_found (Some u) = Some (record { number = u.number; form = u.form })
 
 -- the addresses that the sound entries name
 abbrev pub named_in : Label → States → List ℕ

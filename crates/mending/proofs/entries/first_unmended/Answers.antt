@@ -10,8 +10,8 @@ returns-in-Some g c =
 
 pub loop-i-preserved : goal.loop-i-preserved
 loop-i-preserved g c =
-    looking_more c.args.label.now (shown (g.D.Drive.meaning c.args.drive.now)) c.loop-i.tally c.unmended-form.new.tally c.loop-i.i (omega arith)
-    c.in-default.ensures.form c.unmended-form.ensures.tally c.loop-i.invariant
+    looking_more c.args.label.now (shown (g.D.Drive.meaning c.args.drive.now)) c.loop-i.tally c.unmended_form.new.tally c.loop-i.i (omega arith)
+    c.in_default.ensures.form c.unmended_form.ensures.tally c.loop-i.invariant
 
 pub returns : goal.returns
 returns g c = c.loop-i.invariant.1 0 (omega arith)

@@ -3,7 +3,7 @@ use Rattle.record.specs.declared.section.Section.{Section}
 use Rattle.record.proofs.BitLaws.{OnBelow, on_none, on_more, on_passed, on_all}
 use Rattle.mending.specs.Leftovers.{left_over}
 use Rattle.mending.proofs.sections.exact_section.Goals as goal
-use Rattle.mending.proofs.sections.exact_section.Goals.{then-is-left, else-is-left}
+use Rattle.mending.proofs.sections.exact_section.Goals.{then-is_left, else-is_left}
 
 pub loop-r-init : goal.loop-r-init
 loop-r-init c =
@@ -17,9 +17,9 @@ loop-r-preserved c =
     let bits_in : Section → List ℕ = λ s. s.bits in
     let below : r < 3968 = omega arith in
     let P : List ℕ → Type 0 = λ bits. OnBelow f (r + 1) bits in
-    elim c.if-is-left.branch [
-      | then-is-left w ↦ subst P (sym (ap bits_in w.section-is ∙ w.give.ensures)) (on_more f r c.loop-r.section.bits below (sym w.if-is-left.ensures) c.loop-r.invariant)
-      | else-is-left w ↦ subst P (sym (ap bits_in w.section-is)) (on_passed f r c.loop-r.section.bits below (sym w.if-is-left.ensures) c.loop-r.invariant)
+    elim c.if-is_left.branch [
+      | then-is_left w ↦ subst P (sym (ap bits_in w.section-is ∙ w.give.ensures)) (on_more f r c.loop-r.section.bits below (sym w.if-is_left.ensures) c.loop-r.invariant)
+      | else-is_left w ↦ subst P (sym (ap bits_in w.section-is)) (on_passed f r c.loop-r.section.bits below (sym w.if-is_left.ensures) c.loop-r.invariant)
     ]
 
 pub returns : goal.returns

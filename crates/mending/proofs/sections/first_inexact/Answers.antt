@@ -8,8 +8,8 @@ returns-then-not-shows g c =
     let l = c.args.label.now in
     let s = shown (g.D.Drive.meaning c.args.drive.now) in
     let k = c.loop-k.k in
-    let form = section_exact l s c.args.tally.now k _ c.requires.named c.encode-exact.ensures in
-    let told = section_told l s k _ c.read-shown-read.result _ c.read-shown-read.new.page _ c.from.ensures c.read-shown-read.ensures form c.if-not-shows.ensures in
+    let form = section_exact l s c.args.tally.now k _ c.requires.named c.encode_exact.ensures in
+    let told = section_told l s k _ c.read_shown-read.result _ c.read_shown-read.new.page _ c.from.ensures c.read_shown-read.ensures form c.if-not-shows.ensures in
     inexact_found l s k (omega arith) told c.loop-k.invariant
 
 pub loop-k-preserved : goal.loop-k-preserved
@@ -17,6 +17,6 @@ loop-k-preserved g c =
     let l = c.args.label.now in
     let s = shown (g.D.Drive.meaning c.args.drive.now) in
     let k = c.loop-k.k in
-    let form = section_exact l s c.args.tally.now k _ c.requires.named c.encode-exact.ensures in
-    let told = section_told l s k _ c.read-shown-read.result _ c.read-shown-read.new.page _ c.from.ensures c.read-shown-read.ensures form c.if-not-shows.ensures in
+    let form = section_exact l s c.args.tally.now k _ c.requires.named c.encode_exact.ensures in
+    let told = section_told l s k _ c.read_shown-read.result _ c.read_shown-read.new.page _ c.from.ensures c.read_shown-read.ensures form c.if-not-shows.ensures in
     inexact_more l s k (omega arith) told c.loop-k.invariant

@@ -6,7 +6,7 @@ use Rattle.mending.specs.Sought.{pages_of}
 use Rattle.mending.specs.Tallies.{Adds}
 use Rattle.mending.proofs.UnmendedLaws.{naming_none, naming_more, naming_all}
 use Rattle.mending.proofs.tally.tally_named.Goals as goal
-use Rattle.mending.proofs.tally.tally_named.Goals.{in-Some, in-default}
+use Rattle.mending.proofs.tally.tally_named.Goals.{in-Some, in_default}
 
 pub loop-i-init : goal.loop-i-init
 loop-i-init g c = naming_none c.args.label.now (shown (g.D.Drive.meaning c.args.drive.now)) c.clear.new.tally c.clear.ensures
@@ -15,15 +15,15 @@ pub loop-i-preserved : goal.loop-i-preserved
 loop-i-preserved g c =
     let l = c.args.label.now in
     let before = c.loop-i.tally in
-    let after = c.match-sound-entry.tally in
+    let after = c.match-sound_entry.tally in
     let next = naming_more l (shown (g.D.Drive.meaning c.args.drive.now)) before after in
-    elim c.match-sound-entry.branch [
+    elim c.match-sound_entry.branch [
       | in-Some w ↦
           let slots = w.in-Some.entry.slots in
-          let adds : Adds (pages_of l) slots before w.note-slots.new.tally = subst (λ (r : Region). Adds r slots before w.note-slots.new.tally) c.of-pages-region.ensures w.note-slots.ensures in
+          let adds : Adds (pages_of l) slots before w.note_slots.new.tally = subst (λ (r : Region). Adds r slots before w.note_slots.new.tally) c.of_pages-region.ensures w.note_slots.ensures in
           next slots c.loop-i.i (omega arith) (ap slots_or_none w.in-Some.ensures) (subst (Adds (pages_of l) slots before) (sym w.tally-is) adds) c.loop-i.invariant
-      | in-default w ↦
-          next [] c.loop-i.i (omega arith) (ap slots_or_none w.in-default.ensures) (subst (Adds (pages_of l) [] before) (sym w.tally-is) (λ a h. refl)) c.loop-i.invariant
+      | in_default w ↦
+          next [] c.loop-i.i (omega arith) (ap slots_or_none w.in_default.ensures) (subst (Adds (pages_of l) [] before) (sym w.tally-is) (λ a h. refl)) c.loop-i.invariant
     ]
 
 pub returns : goal.returns

@@ -9,7 +9,7 @@ pub loop-p-preserved : goal.loop-p-preserved
 loop-p-preserved g c =
     let i = c.loop-p.invariant in (
       length-set c.loop-p.moved c.loop-p.p _ ∙ i.0,
-      filled_more (updated (g.D.Drive.meaning c.args.drive.now)) c.args.slots.now c.loop-p.moved c.loop-p.p Empty _ (omega arith) (omega arith) i.1 c.moved-slot.ensures,
+      filled_more (updated (g.D.Drive.meaning c.args.drive.now)) c.args.slots.now c.loop-p.moved c.loop-p.p Empty _ (omega arith) (omega arith) i.1 c.moved_slot.ensures,
     )
 
 pub returns : goal.returns
