@@ -8,85 +8,85 @@ use Rattle.volumes.specs.Volumes.{volume_of, rules}
 use Rattle.volumes.proofs.Mapping.{balance_busy, balance_takes, balance_gives, balance_quiet, at_plan}
 use Rattle.volumes.proofs.volume.Volume.balance.Goals as goal
 
-pub returns-in-err-ask-page : goal.returns-in-err-ask-page
+pub returns-in_err-ask_page : goal.returns-in_err-ask_page
 unfolding plan balance_plan
-returns-in-err-ask-page g c =
-    let p = err_from_is_err_and c.from-residual.result c.from-residual.ensures.1 in
-    rw (p.1, p.2) (record { carried = carried _ _ _ _ _ tt (refusing _ _ _ _ _ (asked_no _ _ _ _ c.in-err-ask-page.ensures) refl refl); zero = c.drop-work.ensures })
+returns-in_err-ask_page g c =
+    let p = err_from_is_err_and c.from_residual.result c.from_residual.ensures.1 in
+    rw (p.1, p.2) (record { carried = carried _ _ _ _ _ tt (refusing _ _ _ _ _ (asked_no _ _ _ _ c.in_err-ask_page.ensures) refl refl); zero = c.drop-work.ensures })
 
-pub returns-in-err-ask-open : goal.returns-in-err-ask-open
+pub returns-in_err-ask_open : goal.returns-in_err-ask_open
 unfolding plan balance_plan
-returns-in-err-ask-open g c =
-    let p = err_from_is_err_and c.from-residual-in-err-ask-open.result c.from-residual-in-err-ask-open.ensures.1 in
-    let no' = asked_yes _ _ _ c.in-ok-ask-page.ensures ∙ asked_no _ _ _ _ c.in-err-ask-open.ensures in
-    rw (p.1, p.2) (record { carried = carried _ _ _ _ _ tt (refusing _ _ _ _ _ no' refl refl); zero = c.drop-work-in-err-ask-open.ensures })
+returns-in_err-ask_open g c =
+    let p = err_from_is_err_and c.from_residual-in_err-ask_open.result c.from_residual-in_err-ask_open.ensures.1 in
+    let no' = asked_yes _ _ _ c.in_ok-ask_page.ensures ∙ asked_no _ _ _ _ c.in_err-ask_open.ensures in
+    rw (p.1, p.2) (record { carried = carried _ _ _ _ _ tt (refusing _ _ _ _ _ no' refl refl); zero = c.drop-work-in_err-ask_open.ensures })
 
-pub returns-then-not-is-idle : goal.returns-then-not-is-idle
+pub returns-then-not-is_idle : goal.returns-then-not-is_idle
 unfolding plan
-returns-then-not-is-idle g c =
+returns-then-not-is_idle g c =
     let v : Volume = volume_of g.D.Drive.meaning c.args.self.now in
     let r = rules g.D.Of.Kind.depth g.D.Of.Kind.life in
-    let waits = balance_busy r (length c.args.page.now) v.drive v.memory c.in-ok-ask-page.ensures c.in-ok-ask-open.ensures c.if-not-is-idle.ensures in
-    record { carried = carried _ _ _ _ _ tt (keeping _ _ _ _ _ _ waits refl refl refl); zero = c.drop-work-then-not-is-idle.ensures }
+    let waits = balance_busy r (length c.args.page.now) v.drive v.memory c.in_ok-ask_page.ensures c.in_ok-ask_open.ensures c.if-not-is_idle.ensures in
+    record { carried = carried _ _ _ _ _ tt (keeping _ _ _ _ _ _ waits refl refl refl); zero = c.drop-work-then-not-is_idle.ensures }
 
-pub returns-in-err-posted : goal.returns-in-err-posted
+pub returns-in_err-posted : goal.returns-in_err-posted
 unfolding plan
-returns-in-err-posted g c =
-    let p = err_from_is_err_and c.from-residual-in-err-posted.result c.from-residual-in-err-posted.ensures.1 in
+returns-in_err-posted g c =
+    let p = err_from_is_err_and c.from_residual-in_err-posted.result c.from_residual-in_err-posted.ensures.1 in
     let v : Volume = volume_of g.D.Drive.meaning c.args.self.now in
     let r = rules g.D.Of.Kind.depth g.D.Of.Kind.life in
-    let service : c.len-in-service.result ≡ length v.memory.service = c.len-in-service.ensures.same ∙ ap length c.service.ensures.value in
+    let service : c.len-in_service.result ≡ length v.memory.service = c.len-in_service.ensures.same ∙ ap length c.service.ensures.value in
     let few : length v.memory.service < 8 = omega arith in
-    let takes = balance_takes r (length c.args.page.now) v.drive v.memory c.in-ok-ask-page.ensures c.in-ok-ask-open.ensures c.if-not-is-idle.ensures few in
+    let takes = balance_takes r (length c.args.page.now) v.drive v.memory c.in_ok-ask_page.ensures c.in_ok-ask_open.ensures c.if-not-is_idle.ensures few in
     let long : length c.take.new.page ≡ length c.args.page.now = omega arith in
     rw (p.1, p.2)
     (record {
-      carried = carried _ _ _ _ _ tt (at_plan _ _ _ _ _ _ takes refl c.in-err-posted.ensures);
-      zero = c.drop-work-in-err-posted.ensures ∙ ap (λ n. replicate n 0) long;
+      carried = carried _ _ _ _ _ tt (at_plan _ _ _ _ _ _ takes refl c.in_err-posted.ensures);
+      zero = c.drop-work-in_err-posted.ensures ∙ ap (λ n. replicate n 0) long;
     })
 
-pub returns-then-in-service-lt-FEW : goal.returns-then-in-service-lt-FEW
+pub returns-then-in_service-lt-FEW : goal.returns-then-in_service-lt-FEW
 unfolding plan
-returns-then-in-service-lt-FEW g c =
+returns-then-in_service-lt-FEW g c =
     let v : Volume = volume_of g.D.Drive.meaning c.args.self.now in
     let r = rules g.D.Of.Kind.depth g.D.Of.Kind.life in
-    let service : c.len-in-service.result ≡ length v.memory.service = c.len-in-service.ensures.same ∙ ap length c.service.ensures.value in
+    let service : c.len-in_service.result ≡ length v.memory.service = c.len-in_service.ensures.same ∙ ap length c.service.ensures.value in
     let few : length v.memory.service < 8 = omega arith in
-    let takes = balance_takes r (length c.args.page.now) v.drive v.memory c.in-ok-ask-page.ensures c.in-ok-ask-open.ensures c.if-not-is-idle.ensures few in
+    let takes = balance_takes r (length c.args.page.now) v.drive v.memory c.in_ok-ask_page.ensures c.in_ok-ask_open.ensures c.if-not-is_idle.ensures few in
     let long : length c.take.new.page ≡ length c.args.page.now = omega arith in
     record {
-      carried = carried _ _ _ _ _ tt (at_plan _ _ _ _ _ _ takes (ap Ok c.balanced.ensures) c.in-ok-posted.ensures);
-      zero = c.drop-work-then-in-service-lt-FEW.ensures ∙ ap (λ n. replicate n 0) long;
+      carried = carried _ _ _ _ _ tt (at_plan _ _ _ _ _ _ takes (ap Ok c.balanced.ensures) c.in_ok-posted.ensures);
+      zero = c.drop-work-then-in_service-lt-FEW.ensures ∙ ap (λ n. replicate n 0) long;
     }
 
-pub returns-in-err-posted-2 : goal.returns-in-err-posted-2
+pub returns-in_err-posted-2 : goal.returns-in_err-posted-2
 unfolding plan
-returns-in-err-posted-2 g c =
-    let p = err_from_is_err_and c.from-residual-in-err-posted-2.result c.from-residual-in-err-posted-2.ensures.1 in
+returns-in_err-posted-2 g c =
+    let p = err_from_is_err_and c.from_residual-in_err-posted-2.result c.from_residual-in_err-posted-2.ensures.1 in
     let v : Volume = volume_of g.D.Drive.meaning c.args.self.now in
     let r = rules g.D.Of.Kind.depth g.D.Of.Kind.life in
-    let service : c.len-in-service.result ≡ length v.memory.service = c.len-in-service.ensures.same ∙ ap length c.service.ensures.value in
+    let service : c.len-in_service.result ≡ length v.memory.service = c.len-in_service.ensures.same ∙ ap length c.service.ensures.value in
     let many : 24 < length v.memory.service = omega arith in
-    let gives = balance_gives r (length c.args.page.now) v.drive v.memory c.in-ok-ask-page.ensures c.in-ok-ask-open.ensures c.if-not-is-idle.ensures many in
+    let gives = balance_gives r (length c.args.page.now) v.drive v.memory c.in_ok-ask_page.ensures c.in_ok-ask_open.ensures c.if-not-is_idle.ensures many in
     let long : length c.give.new.page ≡ length c.args.page.now = omega arith in
     rw (p.1, p.2)
     (record {
-      carried = carried _ _ _ _ _ tt (at_plan _ _ _ _ _ _ gives refl (c.in-err-posted-2.ensures quiet));
-      zero = c.drop-work-in-err-posted-2.ensures ∙ ap (λ n. replicate n 0) long;
+      carried = carried _ _ _ _ _ tt (at_plan _ _ _ _ _ _ gives refl (c.in_err-posted-2.ensures quiet));
+      zero = c.drop-work-in_err-posted-2.ensures ∙ ap (λ n. replicate n 0) long;
     })
 
-pub returns-then-in-service-gt-MANY : goal.returns-then-in-service-gt-MANY
+pub returns-then-in_service-gt-MANY : goal.returns-then-in_service-gt-MANY
 unfolding plan
-returns-then-in-service-gt-MANY g c =
+returns-then-in_service-gt-MANY g c =
     let v : Volume = volume_of g.D.Drive.meaning c.args.self.now in
     let r = rules g.D.Of.Kind.depth g.D.Of.Kind.life in
-    let service : c.len-in-service.result ≡ length v.memory.service = c.len-in-service.ensures.same ∙ ap length c.service.ensures.value in
+    let service : c.len-in_service.result ≡ length v.memory.service = c.len-in_service.ensures.same ∙ ap length c.service.ensures.value in
     let many : 24 < length v.memory.service = omega arith in
-    let gives = balance_gives r (length c.args.page.now) v.drive v.memory c.in-ok-ask-page.ensures c.in-ok-ask-open.ensures c.if-not-is-idle.ensures many in
+    let gives = balance_gives r (length c.args.page.now) v.drive v.memory c.in_ok-ask_page.ensures c.in_ok-ask_open.ensures c.if-not-is_idle.ensures many in
     let long : length c.give.new.page ≡ length c.args.page.now = omega arith in
     record {
-      carried = carried _ _ _ _ _ tt (at_plan _ _ _ _ _ _ gives (ap Ok c.balanced-then-in-service-gt-MANY.ensures) (c.in-ok-posted-2.ensures quiet));
-      zero = c.drop-work-then-in-service-gt-MANY.ensures ∙ ap (λ n. replicate n 0) long;
+      carried = carried _ _ _ _ _ tt (at_plan _ _ _ _ _ _ gives (ap Ok c.balanced-then-in_service-gt-MANY.ensures) (c.in_ok-posted-2.ensures quiet));
+      zero = c.drop-work-then-in_service-gt-MANY.ensures ∙ ap (λ n. replicate n 0) long;
     }
 
 pub returns : goal.returns
@@ -94,8 +94,8 @@ unfolding plan
 returns g c =
     let v : Volume = volume_of g.D.Drive.meaning c.args.self.now in
     let r = rules g.D.Of.Kind.depth g.D.Of.Kind.life in
-    let service : c.len-in-service.result ≡ length v.memory.service = c.len-in-service.ensures.same ∙ ap length c.service.ensures.value in
+    let service : c.len-in_service.result ≡ length v.memory.service = c.len-in_service.ensures.same ∙ ap length c.service.ensures.value in
     let some' : 8 ≤ length v.memory.service = omega arith in
     let most : length v.memory.service ≤ 24 = omega arith in
-    let rests = balance_quiet r (length c.args.page.now) v.drive v.memory c.in-ok-ask-page.ensures c.in-ok-ask-open.ensures c.if-not-is-idle.ensures some' most in
+    let rests = balance_quiet r (length c.args.page.now) v.drive v.memory c.in_ok-ask_page.ensures c.in_ok-ask_open.ensures c.if-not-is_idle.ensures some' most in
     record { carried = carried _ _ _ _ _ tt (keeping _ _ _ _ _ _ rests refl refl refl); zero = c.drop-work-2.ensures }

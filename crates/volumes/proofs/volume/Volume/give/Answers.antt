@@ -13,20 +13,20 @@ use Rattle.volumes.specs.Volumes.{volume_of, rules}
 use Rattle.volumes.proofs.Mapping.{section_given}
 use Rattle.volumes.proofs.volume.Volume.give.Goals as goal
 
-pub returns-in-err-post-section : goal.returns-in-err-post-section
-returns-in-err-post-section g c reply =
-    let p = err_from_is_err_and c.from-residual.result c.from-residual.ensures.1 in
+pub returns-in_err-post_section : goal.returns-in_err-post_section
+returns-in_err-post_section g c reply =
+    let p = err_from_is_err_and c.from_residual.result c.from_residual.ensures.1 in
     let v : Volume = volume_of g.D.Drive.meaning c.args.self.now in
     let r = rules g.D.Of.Kind.depth g.D.Of.Kind.life in
     let k = c.covering-k.result in
     let service = c.service-service.ensures.value in
     let found = c.in-Some.ensures.first ∙ ap oldest service in
-    let amount = c.saturating-sub-most.ensures ∙ ap (λ n. n - c.args.left) (c.len.ensures.same ∙ ap length service) in
-    let shown = c.shown-section-section.ensures ∙ ap (λ (l : Label). bits_shown v.drive l.id l.entries k) c.label-label.ensures in
-    let gives = c.take-section-given.ensures.given ∙ ap (given k c.saturating-sub-most.result) service in
-    let stays = c.take-section-given.ensures.staying ∙ ap (staying k c.saturating-sub-most.result) service in
-    let plan = section_given r v.drive v.memory c.args.left reply _ _ _ _ _ _ _ found c.covering-k.ensures.value amount shown gives c.give-back.ensures stays in
-    let kept = c.in-err-post-section.ensures in
+    let amount = c.saturating_sub-most.ensures ∙ ap (λ n. n - c.args.left) (c.len.ensures.same ∙ ap length service) in
+    let shown = c.shown_section-section.ensures ∙ ap (λ (l : Label). bits_shown v.drive l.id l.entries k) c.label-label.ensures in
+    let gives = c.take_section-given.ensures.given ∙ ap (given k c.saturating_sub-most.result) service in
+    let stays = c.take_section-given.ensures.staying ∙ ap (staying k c.saturating_sub-most.result) service in
+    let plan = section_given r v.drive v.memory c.args.left reply _ _ _ _ _ _ _ found c.covering-k.ensures.value amount shown gives c.give_back.ensures stays in
+    let kept = c.in_err-post_section.ensures in
     let same = ap₂ {C = Volume} (λ d x. record { drive = d; memory = view x }) kept.after kept.same in
     rw (p.1, p.2) (post_refused r v _ _ _ _ _ _ _ plan kept.answer refl same)
 
@@ -37,12 +37,12 @@ returns g c reply =
     let k = c.covering-k.result in
     let service = c.service-service.ensures.value in
     let found = c.in-Some.ensures.first ∙ ap oldest service in
-    let amount = c.saturating-sub-most.ensures ∙ ap (λ n. n - c.args.left) (c.len.ensures.same ∙ ap length service) in
-    let shown = c.shown-section-section.ensures ∙ ap (λ (l : Label). bits_shown v.drive l.id l.entries k) c.label-label.ensures in
-    let gives = c.take-section-given.ensures.given ∙ ap (given k c.saturating-sub-most.result) service in
-    let stays = c.take-section-given.ensures.staying ∙ ap (staying k c.saturating-sub-most.result) service in
-    let plan = section_given r v.drive v.memory c.args.left reply _ _ _ _ _ _ _ found c.covering-k.ensures.value amount shown gives c.give-back.ensures stays in
-    let posted = c.in-ok-post-section.ensures in
-    let left = listed c.take-section-given.new.self in
+    let amount = c.saturating_sub-most.ensures ∙ ap (λ n. n - c.args.left) (c.len.ensures.same ∙ ap length service) in
+    let shown = c.shown_section-section.ensures ∙ ap (λ (l : Label). bits_shown v.drive l.id l.entries k) c.label-label.ensures in
+    let gives = c.take_section-given.ensures.given ∙ ap (given k c.saturating_sub-most.result) service in
+    let stays = c.take_section-given.ensures.staying ∙ ap (staying k c.saturating_sub-most.result) service in
+    let plan = section_given r v.drive v.memory c.args.left reply _ _ _ _ _ _ _ found c.covering-k.ensures.value amount shown gives c.give_back.ensures stays in
+    let posted = c.in_ok-post_section.ensures in
+    let left = listed c.take_section-given.new.self in
     let held = c.give.ensures ∙ ap₂ {C = Memory} (λ x n. with_stock (view x) (Writing k) (set (view x).counts k n) left (view x).unsettled) posted.same c.count.ensures in
     posting r v _ _ _ _ _ _ posted.after.0 plan posted.answer refl held posted.after.1

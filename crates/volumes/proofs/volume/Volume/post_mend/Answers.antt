@@ -9,73 +9,73 @@ use Rattle.volumes.specs.Volumes.{rules}
 use Rattle.volumes.proofs.Carrying.{page_long, tally_long}
 use Rattle.volumes.proofs.volume.Volume.post_mend.Goals as goal
 
-pub returns-in-err-ask-page : goal.returns-in-err-ask-page
+pub returns-in_err-ask_page : goal.returns-in_err-ask_page
 unfolding plan salvage_plan
-returns-in-err-ask-page g c =
-    let p = err_from_is_err_and c.from-residual.result c.from-residual.ensures.1 in
-    rw (p.1, p.2) (carried _ _ _ _ _ tt (refusing _ _ _ _ _ (asked_no _ _ _ _ c.in-err-ask-page.ensures) refl refl))
+returns-in_err-ask_page g c =
+    let p = err_from_is_err_and c.from_residual.result c.from_residual.ensures.1 in
+    rw (p.1, p.2) (carried _ _ _ _ _ tt (refusing _ _ _ _ _ (asked_no _ _ _ _ c.in_err-ask_page.ensures) refl refl))
 
-pub returns-in-err-ask-shut : goal.returns-in-err-ask-shut
+pub returns-in_err-ask_shut : goal.returns-in_err-ask_shut
 unfolding plan salvage_plan
-returns-in-err-ask-shut g c =
-    let p = err_from_is_err_and c.from-residual-in-err-ask-shut.result c.from-residual-in-err-ask-shut.ensures.1 in
-    rw (p.1, p.2) (carried _ _ _ _ _ tt (refusing _ _ _ _ _ (asked_yes _ _ _ c.in-ok-ask-page.ensures ∙ asked_no _ _ _ _ c.in-err-ask-shut.ensures) refl refl))
+returns-in_err-ask_shut g c =
+    let p = err_from_is_err_and c.from_residual-in_err-ask_shut.result c.from_residual-in_err-ask_shut.ensures.1 in
+    rw (p.1, p.2) (carried _ _ _ _ _ tt (refusing _ _ _ _ _ (asked_yes _ _ _ c.in_ok-ask_page.ensures ∙ asked_no _ _ _ _ c.in_err-ask_shut.ensures) refl refl))
 
-pub returns-in-err-label : goal.returns-in-err-label
+pub returns-in_err-label : goal.returns-in_err-label
 unfolding plan salvage_plan
-returns-in-err-label g c =
-    let p = err_from_is_err_and c.from-residual-in-err-label.result c.from-residual-in-err-label.ensures.1 in
+returns-in_err-label g c =
+    let p = err_from_is_err_and c.from_residual-in_err-label.result c.from_residual-in_err-label.ensures.1 in
     rw (p.1, p.2) (carried _ _ _ _ _ tt (refusing _ _ _ _ _
-    (asked_yes _ _ _ c.in-ok-ask-page.ensures ∙ (asked_yes _ _ _ c.in-ok-ask-shut.ensures ∙ needed_none _ _ _ _ c.in-err-label.ensures)) refl refl))
+    (asked_yes _ _ _ c.in_ok-ask_page.ensures ∙ (asked_yes _ _ _ c.in_ok-ask_shut.ensures ∙ needed_none _ _ _ _ c.in_err-label.ensures)) refl refl))
 
-pub returns-in-err-ask-tally : goal.returns-in-err-ask-tally
+pub returns-in_err-ask_tally : goal.returns-in_err-ask_tally
 unfolding plan salvage_plan
-returns-in-err-ask-tally g c =
-    let p = err_from_is_err_and c.from-residual-in-err-ask-tally.result c.from-residual-in-err-ask-tally.ensures.1 in
+returns-in_err-ask_tally g c =
+    let p = err_from_is_err_and c.from_residual-in_err-ask_tally.result c.from_residual-in_err-ask_tally.ensures.1 in
     let at_size = ap (λ n. asked 5 (eqb (length c.args.tally.now) n)) c.size.ensures in
     rw (p.1, p.2) (carried _ _ _ _ _ tt (refusing _ _ _ _ _
-    (asked_yes _ _ _ c.in-ok-ask-page.ensures ∙ (asked_yes _ _ _ c.in-ok-ask-shut.ensures ∙ (needed_some _ _ _ _ c.in-ok-label.ensures
-    ∙ asked_no _ _ _ _ (c.in-err-ask-tally.ensures ∙ at_size)))) refl refl))
+    (asked_yes _ _ _ c.in_ok-ask_page.ensures ∙ (asked_yes _ _ _ c.in_ok-ask_shut.ensures ∙ (needed_some _ _ _ _ c.in_ok-label.ensures
+    ∙ asked_no _ _ _ _ (c.in_err-ask_tally.ensures ∙ at_size)))) refl refl))
 
-pub returns-in-err-ask-quiet : goal.returns-in-err-ask-quiet
+pub returns-in_err-ask_quiet : goal.returns-in_err-ask_quiet
 unfolding plan salvage_plan
-returns-in-err-ask-quiet g c =
-    let p = err_from_is_err_and c.from-residual-in-err-ask-quiet.result c.from-residual-in-err-ask-quiet.ensures.1 in
+returns-in_err-ask_quiet g c =
+    let p = err_from_is_err_and c.from_residual-in_err-ask_quiet.result c.from_residual-in_err-ask_quiet.ensures.1 in
     let at_size = ap (λ n. asked 5 (eqb (length c.args.tally.now) n)) c.size.ensures in
     let at_owed = ap (λ n. asked 15 (eqb n 0)) c.owed.ensures.value in
     rw (p.1, p.2) (carried _ _ _ _ _ tt (refusing _ _ _ _ _
-    (asked_yes _ _ _ c.in-ok-ask-page.ensures ∙ (asked_yes _ _ _ c.in-ok-ask-shut.ensures ∙ (needed_some _ _ _ _ c.in-ok-label.ensures
-    ∙ (asked_yes _ _ _ (c.in-ok-ask-tally.ensures ∙ at_size) ∙ asked_no _ _ _ _ (c.in-err-ask-quiet.ensures ∙ at_owed))))) refl refl))
+    (asked_yes _ _ _ c.in_ok-ask_page.ensures ∙ (asked_yes _ _ _ c.in_ok-ask_shut.ensures ∙ (needed_some _ _ _ _ c.in_ok-label.ensures
+    ∙ (asked_yes _ _ _ (c.in_ok-ask_tally.ensures ∙ at_size) ∙ asked_no _ _ _ _ (c.in_err-ask_quiet.ensures ∙ at_owed))))) refl refl))
 
-pub next-mend-answer-requires : goal.next-mend-answer-requires
-next-mend-answer-requires g c =
-    let long = page_long (length c.args.page.now) c.in-ok-ask-page.ensures in
-    let whole = tally_long (length c.args.tally.now) c.size.result c.in-ok-ask-tally.ensures in
-    record { paged = omega (arith, long); tallied = omega (arith, whole, c.size.ensures); believed = some_of 3 _ _ c.in-ok-label.ensures }
+pub next_mend-answer-requires : goal.next_mend-answer-requires
+next_mend-answer-requires g c =
+    let long = page_long (length c.args.page.now) c.in_ok-ask_page.ensures in
+    let whole = tally_long (length c.args.tally.now) c.size.result c.in_ok-ask_tally.ensures in
+    record { paged = omega (arith, long); tallied = omega (arith, whole, c.size.ensures); believed = some_of 3 _ _ c.in_ok-label.ensures }
 
-pub returns-in-err-post : goal.returns-in-err-post
+pub returns-in_err-post : goal.returns-in_err-post
 unfolding plan salvage_plan
-returns-in-err-post g c =
-    let p = err_from_is_err_and c.from-residual-in-err-post.result c.from-residual-in-err-post.ensures.1 in
+returns-in_err-post g c =
+    let p = err_from_is_err_and c.from_residual-in_err-post.result c.from_residual-in_err-post.ensures.1 in
     let at_size = ap (λ n. asked 5 (eqb (length c.args.tally.now) n)) c.size.ensures in
     let at_owed = ap (λ n. asked 15 (eqb n 0)) c.owed.ensures.value in
     let v = view c.args.self.now.memory in
-    let same = ap {B = Volume} (λ m. record { drive = m; memory = v }) c.in-err-post.ensures.after in
+    let same = ap {B = Volume} (λ m. record { drive = m; memory = v }) c.in_err-post.ensures.after in
     rw (p.1, p.2) (carried _ _ _ _ _ tt (post_refused _ _ _ _ _ _ _ _ _
-    (asked_yes _ _ _ c.in-ok-ask-page.ensures ∙ (asked_yes _ _ _ c.in-ok-ask-shut.ensures ∙ (needed_some _ _ _ _ c.in-ok-label.ensures
-    ∙ (asked_yes _ _ _ (c.in-ok-ask-tally.ensures ∙ at_size) ∙ (asked_yes _ _ _ (c.in-ok-ask-quiet.ensures ∙ at_owed)
-    ∙ c.next-mend-answer.ensures (rules g.D.Of.Kind.depth g.D.Of.Kind.life) v)))))
-    c.in-err-post.ensures.answer refl same))
+    (asked_yes _ _ _ c.in_ok-ask_page.ensures ∙ (asked_yes _ _ _ c.in_ok-ask_shut.ensures ∙ (needed_some _ _ _ _ c.in_ok-label.ensures
+    ∙ (asked_yes _ _ _ (c.in_ok-ask_tally.ensures ∙ at_size) ∙ (asked_yes _ _ _ (c.in_ok-ask_quiet.ensures ∙ at_owed)
+    ∙ c.next_mend-answer.ensures (rules g.D.Of.Kind.depth g.D.Of.Kind.life) v)))))
+    c.in_err-post.ensures.answer refl same))
 
 pub returns : goal.returns
 unfolding plan salvage_plan
 returns g c =
-    let posted = c.in-ok-post.ensures in
+    let posted = c.in_ok-post.ensures in
     let at_size = ap (λ n. asked 5 (eqb (length c.args.tally.now) n)) c.size.ensures in
     let at_owed = ap (λ n. asked 15 (eqb n 0)) c.owed.ensures.value in
     let v = view c.args.self.now.memory in
     carried _ _ _ _ _ tt (posting _ _ _ _ _ _ _ _ posted.after.0
-    (asked_yes _ _ _ c.in-ok-ask-page.ensures ∙ (asked_yes _ _ _ c.in-ok-ask-shut.ensures ∙ (needed_some _ _ _ _ c.in-ok-label.ensures
-    ∙ (asked_yes _ _ _ (c.in-ok-ask-tally.ensures ∙ at_size) ∙ (asked_yes _ _ _ (c.in-ok-ask-quiet.ensures ∙ at_owed)
-    ∙ c.next-mend-answer.ensures (rules g.D.Of.Kind.depth g.D.Of.Kind.life) v)))))
+    (asked_yes _ _ _ c.in_ok-ask_page.ensures ∙ (asked_yes _ _ _ c.in_ok-ask_shut.ensures ∙ (needed_some _ _ _ _ c.in_ok-label.ensures
+    ∙ (asked_yes _ _ _ (c.in_ok-ask_tally.ensures ∙ at_size) ∙ (asked_yes _ _ _ (c.in_ok-ask_quiet.ensures ∙ at_owed)
+    ∙ c.next_mend-answer.ensures (rules g.D.Of.Kind.depth g.D.Of.Kind.life) v)))))
     posted.answer refl refl posted.after.1)

@@ -12,16 +12,16 @@ use Rattle.volumes.specs.Volumes.{volume_of, rules}
 use Rattle.volumes.proofs.Mapping.{used_within, section_taken}
 use Rattle.volumes.proofs.volume.Volume.take.Goals as goal
 
-pub returns-in-err-post-section : goal.returns-in-err-post-section
-returns-in-err-post-section g c =
-    let p = err_from_is_err_and c.from-residual.result c.from-residual.ensures.1 in
+pub returns-in_err-post_section : goal.returns-in_err-post_section
+returns-in_err-post_section g c =
+    let p = err_from_is_err_and c.from_residual.result c.from_residual.ensures.1 in
     let v : Volume = volume_of g.D.Drive.meaning c.args.self.now in
     let r = rules g.D.Of.Kind.depth g.D.Of.Kind.life in
-    let takes = c.take-lowest-taken.ensures in
+    let takes = c.take_lowest-taken.ensures in
     let service = c.len.ensures.same ∙ ap length c.service.ensures.value in
-    let shown = c.shown-section-section.ensures ∙ ap (λ (l : Label). bits_shown v.drive l.id l.entries c.in-Some.k) c.label-label.ensures in
+    let shown = c.shown_section-section.ensures ∙ ap (λ (l : Label). bits_shown v.drive l.id l.entries c.in-Some.k) c.label-label.ensures in
     let plan = section_taken r v.drive v.memory _ _ _ _ _ c.in-Some.ensures.lowest (c.wanted-most.ensures ∙ ap (λ n. 16 - n) service) shown takes.left takes.taken in
-    let kept = c.in-err-post-section.ensures in
+    let kept = c.in_err-post_section.ensures in
     let same = ap₂ {C = Volume} (λ d x. record { drive = d; memory = view x }) kept.after kept.same in
     rw (p.1, p.2) (post_refused r v _ _ _ _ _ _ _ plan kept.answer refl same)
 
@@ -32,19 +32,19 @@ take-requires g c =
     let tickets = used_within v.tickets in
     let four = v.four in
     let service = ap length c.service.ensures.value in
-    let bound : held (view v) + length (listed c.take-lowest-taken.result) ≤ 32 = omega arith in
-    subst (λ m. held (view m) + length (listed c.take-lowest-taken.result) ≤ 32) (sym c.post-section.ensures.same) bound
+    let bound : held (view v) + length (listed c.take_lowest-taken.result) ≤ 32 = omega arith in
+    subst (λ m. held (view m) + length (listed c.take_lowest-taken.result) ≤ 32) (sym c.post_section.ensures.same) bound
 
 pub returns : goal.returns
 returns g c =
     let v : Volume = volume_of g.D.Drive.meaning c.args.self.now in
     let r = rules g.D.Of.Kind.depth g.D.Of.Kind.life in
-    let takes = c.take-lowest-taken.ensures in
+    let takes = c.take_lowest-taken.ensures in
     let service = c.len.ensures.same ∙ ap length c.service.ensures.value in
-    let shown = c.shown-section-section.ensures ∙ ap (λ (l : Label). bits_shown v.drive l.id l.entries c.in-Some.k) c.label-label.ensures in
+    let shown = c.shown_section-section.ensures ∙ ap (λ (l : Label). bits_shown v.drive l.id l.entries c.in-Some.k) c.label-label.ensures in
     let plan = section_taken r v.drive v.memory _ _ _ _ _ c.in-Some.ensures.lowest (c.wanted-most.ensures ∙ ap (λ n. 16 - n) service) shown takes.left takes.taken in
-    let posted = c.in-ok-post-section.ensures in
+    let posted = c.in_ok-post_section.ensures in
     let k = c.in-Some.k in
-    let taken = listed c.take-lowest-taken.result in
+    let taken = listed c.take_lowest-taken.result in
     let held = c.take.ensures ∙ ap₂ {C = Memory} (λ x n. with_stock (view x) (Writing k) (set (view x).counts k n) (view x).service ((view x).unsettled ++ taken)) posted.same c.count.ensures in
     posting r v _ _ _ _ _ _ posted.after.0 plan posted.answer refl held posted.after.1

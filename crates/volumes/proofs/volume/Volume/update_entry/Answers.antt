@@ -14,35 +14,35 @@ use Rattle.model.proofs.CarriedLaws.{asked_yes, asked_no, needed_some, needed_no
 use Rattle.volumes.proofs.Carrying.{posting_entry, entry_refused}
 use Rattle.volumes.proofs.volume.Volume.update_entry.Goals as goal
 
-pub returns-in-err-ask-page : goal.returns-in-err-ask-page
+pub returns-in_err-ask_page : goal.returns-in_err-ask_page
 unfolding plan update_plan
-returns-in-err-ask-page g c =
-    let p = err_from_is_err_and c.from-residual.result c.from-residual.ensures.1 in
+returns-in_err-ask_page g c =
+    let p = err_from_is_err_and c.from_residual.result c.from_residual.ensures.1 in
     rw (p.1, p.2) (carried _ _ _ _ _ tt (refusing _ _ _ _ _
-    (asked_no _ _ _ _ c.in-err-ask-page.ensures) refl refl))
+    (asked_no _ _ _ _ c.in_err-ask_page.ensures) refl refl))
 
-pub returns-in-err-ask-open : goal.returns-in-err-ask-open
+pub returns-in_err-ask_open : goal.returns-in_err-ask_open
 unfolding plan update_plan
-returns-in-err-ask-open g c =
-    let p = err_from_is_err_and c.from-residual-in-err-ask-open.result c.from-residual-in-err-ask-open.ensures.1 in
+returns-in_err-ask_open g c =
+    let p = err_from_is_err_and c.from_residual-in_err-ask_open.result c.from_residual-in_err-ask_open.ensures.1 in
     rw (p.1, p.2) (carried _ _ _ _ _ tt (refusing _ _ _ _ _
-    (asked_yes _ _ _ c.in-ok-ask-page.ensures ∙ asked_no _ _ _ _ c.in-err-ask-open.ensures) refl refl))
+    (asked_yes _ _ _ c.in_ok-ask_page.ensures ∙ asked_no _ _ _ _ c.in_err-ask_open.ensures) refl refl))
 
-pub returns-in-err-used : goal.returns-in-err-used
+pub returns-in_err-used : goal.returns-in_err-used
 unfolding plan update_plan
-returns-in-err-used g c =
-    let p = err_from_is_err_and c.from-residual-in-err-used.result c.from-residual-in-err-used.ensures.1 in
+returns-in_err-used g c =
+    let p = err_from_is_err_and c.from_residual-in_err-used.result c.from_residual-in_err-used.ensures.1 in
     rw (p.1, p.2) (carried _ _ _ _ _ tt (refusing _ _ _ _ _
-    (asked_yes _ _ _ c.in-ok-ask-page.ensures ∙ (asked_yes _ _ _ c.in-ok-ask-open.ensures
-    ∙ needed_none _ _ _ _ c.in-err-used.ensures.found)) refl refl))
+    (asked_yes _ _ _ c.in_ok-ask_page.ensures ∙ (asked_yes _ _ _ c.in_ok-ask_open.ensures
+    ∙ needed_none _ _ _ _ c.in_err-used.ensures.found)) refl refl))
 
-pub returns-in-err-ask-settled : goal.returns-in-err-ask-settled
+pub returns-in_err-ask_settled : goal.returns-in_err-ask_settled
 unfolding plan update_plan
-returns-in-err-ask-settled g c =
-    let p = err_from_is_err_and c.from-residual-in-err-ask-settled.result c.from-residual-in-err-ask-settled.ensures.1 in
+returns-in_err-ask_settled g c =
+    let p = err_from_is_err_and c.from_residual-in_err-ask_settled.result c.from_residual-in_err-ask_settled.ensures.1 in
     rw (p.1, p.2) (carried _ _ _ _ _ tt (refusing _ _ _ _ _
-    (asked_yes _ _ _ c.in-ok-ask-page.ensures ∙ (asked_yes _ _ _ c.in-ok-ask-open.ensures
-    ∙ (needed_some _ _ _ _ c.in-ok-used.ensures.found ∙ asked_no _ _ _ _ c.in-err-ask-settled.ensures))) refl refl))
+    (asked_yes _ _ _ c.in_ok-ask_page.ensures ∙ (asked_yes _ _ _ c.in_ok-ask_open.ensures
+    ∙ (needed_some _ _ _ _ c.in_ok-used.ensures.found ∙ asked_no _ _ _ _ c.in_err-ask_settled.ensures))) refl refl))
 
 -- the entry that is posted names the pages that are Live once the slots have moved
 named : (m : Meaning) (x : File) (moved : List Slot) (entry : Entry) → moved ≡ map (updated m) x.slots → entry ≡ record { meter = x.meter; slots = map live_address moved }
@@ -50,27 +50,27 @@ named : (m : Meaning) (x : File) (moved : List Slot) (entry : Entry) → moved �
 named m x moved entry is e =
     e ∙ ap {B = Entry} (λ l. record { meter = x.meter; slots = l }) (ap (map live_address) is ∙ map-map live_address (updated m) x.slots)
 
-pub returns-in-err-post-entry : goal.returns-in-err-post-entry
+pub returns-in_err-post_entry : goal.returns-in_err-post_entry
 unfolding plan update_plan
-returns-in-err-post-entry g c =
-    let p = err_from_is_err_and c.from-residual-in-err-post-entry.result c.from-residual-in-err-post-entry.ensures.1 in
-    let same = ap {B = Volume} (λ m. record { drive = m; memory = view c.args.self.now.memory }) c.in-err-post-entry.ensures.after in
-    let names = named (g.D.Drive.meaning c.args.self.now.drive) c.in-ok-used.used _ _ c.moved-slots-moved.ensures c.naming-live-entry.ensures in
+returns-in_err-post_entry g c =
+    let p = err_from_is_err_and c.from_residual-in_err-post_entry.result c.from_residual-in_err-post_entry.ensures.1 in
+    let same = ap {B = Volume} (λ m. record { drive = m; memory = view c.args.self.now.memory }) c.in_err-post_entry.ensures.after in
+    let names = named (g.D.Drive.meaning c.args.self.now.drive) c.in_ok-used.used _ _ c.moved_slots-moved.ensures c.naming_live-entry.ensures in
     rw (p.1, p.2) (carried _ _ _ _ _ tt (entry_refused _ _ _ _ _ _ _ _ _ _ _
-    (asked_yes _ _ _ c.in-ok-ask-page.ensures ∙ (asked_yes _ _ _ c.in-ok-ask-open.ensures
-    ∙ (needed_some _ _ _ _ c.in-ok-used.ensures.found ∙ asked_yes _ _ _ c.in-ok-ask-settled.ensures)))
-    c.id.ensures names c.in-err-post-entry.ensures.answer refl same))
+    (asked_yes _ _ _ c.in_ok-ask_page.ensures ∙ (asked_yes _ _ _ c.in_ok-ask_open.ensures
+    ∙ (needed_some _ _ _ _ c.in_ok-used.ensures.found ∙ asked_yes _ _ _ c.in_ok-ask_settled.ensures)))
+    c.id.ensures names c.in_err-post_entry.ensures.answer refl same))
 
 pub returns : goal.returns
 unfolding plan update_plan
 returns g c =
     let v = view c.args.self.now.memory in
-    let x = c.in-ok-used.used in
-    let posted = c.in-ok-post-entry.ensures in
-    let names = named (g.D.Drive.meaning c.args.self.now.drive) c.in-ok-used.used _ _ c.moved-slots-moved.ensures c.naming-live-entry.ensures in
-    let held = c.move-slots.ensures x (some_of 6 _ _ c.in-ok-used.ensures.found)
-    ∙ ap {B = Memory} (λ ss. with_file v c.args.file (Some (with_slots x ss))) c.moved-slots-moved.ensures in
+    let x = c.in_ok-used.used in
+    let posted = c.in_ok-post_entry.ensures in
+    let names = named (g.D.Drive.meaning c.args.self.now.drive) c.in_ok-used.used _ _ c.moved_slots-moved.ensures c.naming_live-entry.ensures in
+    let held = c.move_slots.ensures x (some_of 6 _ _ c.in_ok-used.ensures.found)
+    ∙ ap {B = Memory} (λ ss. with_file v c.args.file (Some (with_slots x ss))) c.moved_slots-moved.ensures in
     carried _ _ _ _ _ tt (posting_entry _ _ _ _ _ _ _ _ _ _ posted.after.0
-    (asked_yes _ _ _ c.in-ok-ask-page.ensures ∙ (asked_yes _ _ _ c.in-ok-ask-open.ensures
-    ∙ (needed_some _ _ _ _ c.in-ok-used.ensures.found ∙ asked_yes _ _ _ c.in-ok-ask-settled.ensures)))
+    (asked_yes _ _ _ c.in_ok-ask_page.ensures ∙ (asked_yes _ _ _ c.in_ok-ask_open.ensures
+    ∙ (needed_some _ _ _ _ c.in_ok-used.ensures.found ∙ asked_yes _ _ _ c.in_ok-ask_settled.ensures)))
     c.id.ensures names posted.answer refl held posted.after.1)
