@@ -8,11 +8,11 @@ use Rattle.model.proofs.UnharmedLaws.{no_power_cut_harms_a_volume}
 use Rattle.record.specs.Regions.{in_limits}
 use Rattle.making.proofs.new.make.Goals as goal
 
-pub write-volume-requires : goal.write-volume-requires
-write-volume-requires g c =
+pub write_volume-requires : goal.write_volume-requires
+write_volume-requires g c =
     let before = g.D.Drive.meaning c.args.drive.now in
-    let yes = make_accepted g.D.Of.Kind.life before c.args.id c.args.entries (length c.args.page.now) c.in-ok-ask-make.ensures in
-    let is = c.complete-all.ensures in
+    let yes = make_accepted g.D.Of.Kind.life before c.args.id c.args.entries (length c.args.page.now) c.in_ok-ask_make.ensures in
+    let is = c.complete_all.ensures in
     let same = ap size is ∙ length_settle before.outstanding before.settled in
     record {
       paged = yes.0;
@@ -25,15 +25,15 @@ pub returns : goal.returns
 returns g c =
     let m = g.D.Drive.meaning in
     let before = m c.args.drive.now in
-    let yes = make_accepted g.D.Of.Kind.life before c.args.id c.args.entries (length c.args.page.now) c.in-ok-ask-make.ensures in
-    let long : length c.write-volume.new.page ≡ length c.args.page.now = omega arith in
+    let yes = make_accepted g.D.Of.Kind.life before c.args.id c.args.entries (length c.args.page.now) c.in_ok-ask_make.ensures in
+    let long : length c.write_volume.new.page ≡ length c.args.page.now = omega arith in
     let id = c.args.id in
     let e = c.args.entries in
     let formed = g.D.Drive.formed c.args.drive.now in
     let rules : Rules = record { depth = g.D.Of.Kind.depth; life = g.D.Of.Kind.life } in
-    let new = made_new before (m c.complete-all.new.drive) (m c.write-volume.new.drive) id e formed yes.1 c.complete-all.ensures c.write-volume.ensures.after in
+    let new = made_new before (m c.complete_all.new.drive) (m c.write_volume.new.drive) id e formed yes.1 c.complete_all.ensures c.write_volume.ensures.after in
     record {
-      answer = c.in-ok-ask-make.ensures;
+      answer = c.in_ok-ask_make.ensures;
       after = new;
       zero = c.drop-work-2.ensures ∙ ap (λ n. replicate n 0) long;
       unharmed = subst (NoPowerCutHarms rules id e) (sym new) (no_power_cut_harms_a_volume rules before id e g.met.D.Of.Kind.deep g.met.D.Of.Kind.lasting formed (omega arith) yes.1);

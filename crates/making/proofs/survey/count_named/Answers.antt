@@ -1,7 +1,7 @@
 use Rattle.std.proofs.Common.{◌≡◌, ℕ, ◌+◌, Some, None, ap, ◌∙◌, arith}
 use Rattle.making.proofs.SurveyLaws.{named_next}
 use Rattle.making.proofs.survey.count_named.Goals as goal
-use Rattle.making.proofs.survey.count_named.Goals.{in-Some, in-default}
+use Rattle.making.proofs.survey.count_named.Goals.{in-Some, in_default}
 
 pub loop-i-preserved : goal.loop-i-preserved
 loop-i-preserved g c =
@@ -10,13 +10,13 @@ loop-i-preserved g c =
     let i = c.loop-i.i in
     let n = c.loop-i.named in
     let inv = c.loop-i.invariant in
-    elim c.match-sound-entry.branch [
+    elim c.match-sound_entry.branch [
       | in-Some w ↦ (
-        named_next m l i n (Some w.in-Some.entry) _ w.in-Some.ensures inv.0 (w.named-is ∙ ap (λ x. n + x) w.count-addresses-named.ensures.value),
-        omega (arith, w.named-is, w.count-addresses-named.ensures.bound, inv.1),
+        named_next m l i n (Some w.in-Some.entry) _ w.in-Some.ensures inv.0 (w.named-is ∙ ap (λ x. n + x) w.count_addresses-named.ensures.value),
+        omega (arith, w.named-is, w.count_addresses-named.ensures.bound, inv.1),
       )
-      | in-default w ↦ (
-        named_next m l i n None _ w.in-default.ensures inv.0 (w.named-is ∙ none n),
+      | in_default w ↦ (
+        named_next m l i n None _ w.in_default.ensures inv.0 (w.named-is ∙ none n),
         omega (arith, w.named-is, inv.1),
       )
     ]
