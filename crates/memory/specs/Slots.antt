@@ -1,5 +1,5 @@
 -- What a call on a slot leaves of its file.
-use Rattle.std.specs.Prelude.{ℕ, Some, None, Ok, Err, Option, Result}
+use Rattle.std.specs.Prelude.{ℕ, Some, None, Ok, Err, Option}
 use Rattle.drive.specs.Answers.{Answer}
 use Rattle.drive.specs.Faults.{refusal, no_record}
 use Rattle.model.specs.declared.memory.File.{File}

@@ -1,7 +1,6 @@
 use Rattle.std.proofs.Common.{ap, ◌∙◌, arith}
 use Rattle.std.proofs.lemmas.List.{length-set}
 use Rattle.model.specs.declared.memory.Slot.TheVariants.{Empty}
-use Rattle.record.specs.declared.entry.Entry.{Entry}
 use Rattle.model.specs.Slots.{live_address}
 use Rattle.memory.proofs.Filled.{filled_more, filled_all}
 use Rattle.memory.proofs.entries.naming_live.Goals as goal

@@ -1,8 +1,8 @@
-use Rattle.std.proofs.Common.{◌≡◌, [], ◌∷◌, ◌++◌, length, sym, refl, ap, ◌∙◌, arith}
+use Rattle.std.proofs.Common.{length, sym, refl, ap, ◌∙◌, arith}
 use Rattle.std.proofs.lemmas.Result.{err_from_is_err_and}
-use Rattle.model.specs.Memory.{with_service, with_tickets}
+use Rattle.model.specs.Memory.{with_service}
 use Rattle.model.specs.Outcomes.{keep, refuse, granted}
-use Rattle.model.specs.Plans.{withdraw_plan, withdrawing}
+use Rattle.model.specs.Plans.{withdraw_plan}
 use Rattle.drive.specs.Faults.{told}
 use Rattle.model.proofs.CarriedLaws.{asked_yes, asked_no, found_some, found_none}
 use Rattle.memory.specs.Numbers.{listed}

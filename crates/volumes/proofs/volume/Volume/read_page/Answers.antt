@@ -1,4 +1,4 @@
-use Rattle.std.proofs.Common.{◌≡◌, length, Ok, sym, refl, ap, ◌∙◌}
+use Rattle.std.proofs.Common.{length, Ok, sym, refl, ap, ◌∙◌}
 use Rattle.model.specs.Outcomes.{page}
 use Rattle.reading.proofs.ReadLaws.{bytes_read}
 use Rattle.volumes.proofs.Carrying.{page_long}

@@ -1,8 +1,7 @@
-use Rattle.std.proofs.Common.{◌≡◌, ◌<◌, sym, refl, ap, ◌∙◌, arith}
+use Rattle.std.proofs.Common.{refl, ◌∙◌}
 use Rattle.std.proofs.lemmas.Result.{err_from_is_err_and}
 use Rattle.memory.specs.View.{view}
 use Rattle.model.specs.Calls.{plan}
-use Rattle.model.specs.Memory.{held}
 use Rattle.model.specs.Plans.{reclaim_plan}
 use Rattle.model.proofs.CarriedLaws.{asked_yes, asked_no, needed_some, needed_none, some_of, carried, refusing, keeping}
 use Rattle.volumes.proofs.Carrying.{slot_within, room_within}
