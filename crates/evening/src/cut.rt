@@ -5,8 +5,8 @@ use crate::steps;
 use anyhow::anyhow;
 use drive::device::{Drive, Kind};
 use figures::writes_spent;
-use making::survey::look;
 use record::label::LabelState;
+use surveys::survey::look;
 use volumes::tokens::WorkingPass;
 use volumes::volume::Volume;
 

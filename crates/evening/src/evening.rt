@@ -5,8 +5,8 @@ use crate::steps;
 use anyhow::anyhow;
 use drive::device::{Drive, Kind};
 use figures::writes_spent;
-use making::new::make;
-use making::survey::{Survey, look};
+use store::making::make;
+use surveys::survey::{Survey, look};
 use volumes::tokens::WorkingPass;
 use volumes::volume::Volume;
 

@@ -5,8 +5,8 @@ use anyhow::anyhow;
 use drive::device::Drive;
 use drive::fault::Fault;
 use figures::pages_adrift;
-use making::survey::look;
 use model::answers::Salvaged;
+use surveys::survey::look;
 use volumes::volume::Volume;
 
 // A volume of this size is salvaged in fewer calls.

@@ -3,9 +3,9 @@ use figures::{
     entries_unsound, page_records, pages_adrift, pages_stored, records_free, writes_per_page,
     writes_spent,
 };
-use making::survey::{SectionFigures, Survey};
 use record::label::{Label, LabelState};
 use std::fmt;
+use surveys::survey::{SectionFigures, Survey};
 
 // The volume as it shows, and what its drive has spent.
 #[derive(Drop)]

@@ -1,6 +1,6 @@
 -- The figures of a report.
 use Rattle.std.specs.Prelude.{false, cond, ℕ, ◌+◌, ◌-◌, ◌*◌, ◌/◌, eqb, get_or}
-use Rattle.making.specs.declared.survey.Survey.{Survey}
+use Rattle.surveys.specs.declared.survey.Survey.{Survey}
 
 -- how many records section k counts as free
 abbrev pub section_free : Survey → ℕ → ℕ

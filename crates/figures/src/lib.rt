@@ -4,7 +4,7 @@
 ghost use Rattle.std.specs.Prelude.{◌≡◌, ◌-◌, ◌<◌};
 ghost use Rattle.figures.specs.Figures.{section_free, records_free, entries_unsound, page_records, pages_adrift, pages_stored, hundredths};
 
-use making::survey::Survey;
+use surveys::survey::Survey;
 
 // How many records one section counts as free.
 fn section_free(survey: &Survey, k: usize) -> u32

@@ -1,9 +1,0 @@
-use Rattle.std.proofs.Common.{◌≡◌}
-use Rattle.model.specs.New.{section_write, writes_of, written}
-use Rattle.making.proofs.new.write_map.Given as goal
-
--- the first k sections are written
-abbrev pub invariant-loop-k : goal.invariant-loop-k
-invariant-loop-k g l =
-    let m = g.D.Drive.meaning in
-    m l.drive ≡ written (writes_of (section_write l.id l.entries l.records) l.k) (m l.initial.drive)

@@ -1,2 +1,0 @@
-pub mod Surveys
-pub mod Through
