@@ -3,6 +3,7 @@ ghost use Rattle.std.specs.Prelude.{◌≡◌, ℕ, ◌+◌, ◌<◌, ◌≤◌,
 ghost use Rattle.drive.specs.Backlogs.{held, is_sound};
 ghost use Rattle.drive.specs.Each.{each, holds_bytes};
 ghost use Rattle.drive.specs.Meaning.{readable, size, owed, shown, pending, posted, complete};
+ghost use Rattle.drive.specs.Queues.{line};
 ghost use Rattle.drive.specs.Surfaces.{states, disk, Fetched, SameMemory};
 
 use crate::queue::Queue;
@@ -18,6 +19,7 @@ pub struct Backlog<'a> {
 impl<'a> Backlog<'a> {
     pub fn new(bytes: &'a mut [u8], marks: &'a mut [u8]) -> Self
         ensures empty { (w : ℕ) → held result w ≡ record { settled = states bytes.old marks.old; outstanding = []; wear = w } }
+        ensures fresh { (disk result.surface ≡ states bytes.old marks.old) × (line result.queue ≡ []) }
         ensures kept { is_sound result ≡ true }
         ensures lent { (result.surface.bytes.ghost_name ≡ bytes.entry.ghost_name) × (result.surface.marks.ghost_name ≡ marks.entry.ghost_name) }
     {
