@@ -102,7 +102,8 @@ fn count_named<D: Drive>(drive: &D, label: &Label, page: &mut [u8]) -> u32
     let mut named = 0u32;
     for i in 0..label.entries {
         if let Some(entry) = sound_entry(drive, label, i, page) {
-            named += count_addresses(&entry.slots);
+            let here = count_addresses(&entry.slots);
+            named += here;
         }
     }
     named

@@ -12,8 +12,8 @@ loop-i-preserved g c =
     let inv = c.loop-i.invariant in
     elim c.match-sound_entry.branch [
       | in-Some w ↦ (
-        named_next m l i n (Some w.in-Some.entry) _ w.in-Some.ensures inv.0 (w.named-is ∙ ap (λ x. n + x) w.count_addresses-named.ensures.value),
-        omega (arith, w.named-is, w.count_addresses-named.ensures.bound, inv.1),
+        named_next m l i n (Some w.in-Some.entry) _ w.in-Some.ensures inv.0 (w.named-is ∙ ap (λ x. n + x) w.count_addresses-here.ensures.value),
+        omega (arith, w.named-is, w.count_addresses-here.ensures.bound, inv.1),
       )
       | in_default w ↦ (
         named_next m l i n None _ w.in_default.ensures inv.0 (w.named-is ∙ none n),
