@@ -25,10 +25,10 @@ unless_shown l s x = cond (shows s (entry_bytes l.id x)) None (Some x)
 abbrev pub unmended_in : Label → States → Option Unmended
 unmended_in l s = first_unmended l.id (pages_of l) s [] 0 l.entries
 
--- an unmended entry as the code has it
-abbrev pub as_found : Option Found → Option Unmended
-as_found None = None
-as_found (Some u) = Some (record { number = u.number; form = u.form })
+-- what the code found, as the plan's unmended entry: the same number and form
+abbrev pub unmended_of : Option Found → Option Unmended
+unmended_of None = None
+unmended_of (Some u) = Some (record { number = u.number; form = u.form })
 
 -- the addresses that the sound entries name
 abbrev pub named_in : Label → States → List ℕ

@@ -1,7 +1,7 @@
 // The entries: the form that each is mended to, and the lowest that does not show it.
 ghost use Rattle.std.specs.Prelude.{◌≡◌, ℕ, ◌+◌, ◌<◌, ◌≤◌, List, [], ◌++◌, length, if◌then◌else◌};
 ghost use Rattle.drive.specs.Meaning.{shown};
-ghost use Rattle.mending.specs.Sought.{pages_of, form_of, unless_shown, unmended_in, as_found};
+ghost use Rattle.mending.specs.Sought.{pages_of, form_of, unless_shown, unmended_in, unmended_of};
 ghost use Rattle.mending.specs.Tallies.{Tallies, Adds};
 ghost use Rattle.model.specs.Mending.{mended_slots, mended};
 ghost use Rattle.record.specs.Entries.{whole_entry};
@@ -27,7 +27,7 @@ pub(crate) fn first_unmended<D: Drive>(
     requires paged { length page.old ≡ 512 }
     requires few { label.now.entries ≤ 3968 }
     requires inside { label.now.records ≤ length tally.old }
-    ensures { as_found result ≡ unmended_in label.now (shown (D.meaning drive.now)) }
+    ensures { unmended_of result ≡ unmended_in label.now (shown (D.meaning drive.now)) }
 {
     clear(tally);
     for i in 0..label.entries {

@@ -38,7 +38,7 @@ use Rattle.model.proofs.ControlForms.{OwnLabel, Formed, own_label}
 use Rattle.model.proofs.ReachedForms.{cut_formed, reached_formed, new_forms}
 use Rattle.model.proofs.MendingLaws.{misses_none, exact, among_at, among_append}
 use Rattle.model.proofs.SalvageSteps.{ask_yes, ask_no, need_some, post_yes, label_known, Step, finishes}
-use Rattle.model.proofs.SalvageRuns.{landed, landed_elsewhere, due_bound, Done, Running, next, done as salvage-done, alive, runs}
+use Rattle.model.proofs.SalvageRuns.{landed, landed_elsewhere, due_bound, Done, Running, next, done as salvage_done, alive, runs}
 
 -- ---- what the entries name
 
@@ -132,7 +132,7 @@ module _ (g : Shape) (lim : in_limits g.id g.entries g.records ≡ true) (o : Le
 module _ (r : Rules) (g : Shape) (lim : in_limits g.id g.entries g.records ≡ true) (deep : 1 ≤ r.depth) (n : Meaning) (life : n.wear + (g.entries + 5) ≤ r.life) where
   finished : (k : ℕ) (v u : Volume) → Running r g lim deep n k v → Salvages r ended v u → Mended g.entries n u.drive
   finished k v u R S =
-      let E = salvage-done r g lim deep ended v u R.rest (alive r g lim deep n life k v R) S in
+      let E = salvage_done r g lim deep ended v u R.rest (alive r g lim deep n life k v R) S in
       mended_by E E.write refl E.step
     where
       mended_by : (E : Done r g ended v u) (w : Write) → E.write ≡ w → Step g E.label (shown v.drive) ended w → Mended g.entries n u.drive
@@ -200,12 +200,12 @@ module _ (r : Rules) (g : Shape) (lim : in_limits g.id g.entries g.records ≡ t
   image_mends o D F quiet =
       record {
         polling_ends = polling_ends_for_every_volume.1;
-        goes_on = λ k v done-so-far.
-            let R = runs r g lim deep n life o D F quiet k v done-so-far in
+        goes_on = λ k v done_so_far.
+            let R = runs r g lim deep n life o D F quiet k v done_so_far in
             let N = next r g lim deep v R.rest (alive r g lim deep n life k v R) in
             let b = (due_bound g (shown v.drive)).0 in
             (N.reply, v.memory, N.write, N.says, omega (arith, R.budget));
-        mends = λ k v u done-so-far S. finished k v u (runs r g lim deep n life o D F quiet k v done-so-far) S;
+        mends = λ k v u done_so_far S. finished k v u (runs r g lim deep n life o D F quiet k v done_so_far) S;
       }
 
 pub salvage_mends_every_image : SalvageMendsEveryImage

@@ -115,8 +115,8 @@ pages_apart g h M d a bs far spare P =
           let m' = may_elsewhere g d a bs e y (far e l) m in
           page_posted d h e y.meter p x a bs (spare e p x y l m' at pos) (P.pages e p x y l m' at pos);
       metered = λ e y l m. P.metered e y l (may_elsewhere g d a bs e y (far e l) m);
-      unmetered = λ e y z l is zero-y m.
-          P.unmetered e y z l (sym (ap (whole_entry_in_state g.id) (shown_elsewhere d a bs (entry_at e) (far e l))) ∙ is) zero-y (may_elsewhere g d a bs e z (far e l) m);
+      unmetered = λ e y z l is zero_y m.
+          P.unmetered e y z l (sym (ap (whole_entry_in_state g.id) (shown_elsewhere d a bs (entry_at e) (far e l))) ∙ is) zero_y (may_elsewhere g d a bs e z (far e l) m);
     }
 
 -- to a label or a section
@@ -165,20 +165,20 @@ module _ (g : Shape) (h : History) (M M' : ℕ → ℕ) (o : Ledger) (d : Meanin
 
       unmetered' : (e : ℕ) (y z : Entry) → e < g.entries → whole_entry_in_state g.id (shown (posted d (entry_at e₀) (entry_bytes g.id x₀)) (entry_at e)) ≡ Some y
           → y.meter ≡ 0 → MayBe g (posted d (entry_at e₀) (entry_bytes g.id x₀)) e z → z.meter ≡ 0
-      unmetered' e y z l is zero-y m =
+      unmetered' e y z l is zero_y m =
           elim (cases_eq e₀ e) [
             | inl i ↦
                 let shows : shown (posted d (entry_at e₀) (entry_bytes g.id x₀)) (entry_at e) ≡ readable (entry_bytes g.id x₀) =
                 subst (λ (j : ℕ). shown (posted d (entry_at e₀) (entry_bytes g.id x₀)) (entry_at j) ≡ readable (entry_bytes g.id x₀)) i (shown_posted d (entry_at e₀) (entry_bytes g.id x₀)) in
                 let read : y ≡ x₀ = entry_read_back g.id x₀ y g.fits fit (sym (ap (whole_entry_in_state g.id) shows) ∙ is) in
-                let zero_x : x₀.meter ≡ 0 = sym (ap (λ (w : Entry). w.meter) read) ∙ zero-y in
+                let zero_x : x₀.meter ≡ 0 = sym (ap (λ (w : Entry). w.meter) read) ∙ zero_y in
                 elim (may_written g d e₀ x₀ e z fit m) [
                   | inl q ↦ none₀ zero_x z (subst (λ (j : ℕ). MayBe g d j z) (sym i) q)
                   | inr q ↦ sym (ap (λ (w : Entry). w.meter) q.1) ∙ zero_x
                 ]
             | inr i ↦
                 let far : entry_at e ≡ entry_at e₀ → ⊥ = λ j. i (omega arith) in
-                P.unmetered e y z l (sym (ap (whole_entry_in_state g.id) (shown_elsewhere d (entry_at e₀) _ (entry_at e) far)) ∙ is) zero-y
+                P.unmetered e y z l (sym (ap (whole_entry_in_state g.id) (shown_elsewhere d (entry_at e₀) _ (entry_at e) far)) ∙ is) zero_y
                 (may_elsewhere g d (entry_at e₀) _ e z far m)
           ]
 
@@ -191,7 +191,7 @@ pages_completed g h M d k wf P =
           let q = P.pages e p x y l (was e y m) at pos in
           record { quiet = quiet_completed d k x q.quiet; bytes = q.bytes; shows = shown_completed d k x wf ∙ q.shows; placed = q.placed };
       metered = λ e y l m. P.metered e y l (was e y m);
-      unmetered = λ e y z l is zero-y m. P.unmetered e y z l (sym (ap (whole_entry_in_state g.id) (shown_completed d k (entry_at e) wf)) ∙ is) zero-y (was e z m);
+      unmetered = λ e y z l is zero_y m. P.unmetered e y z l (sym (ap (whole_entry_in_state g.id) (shown_completed d k (entry_at e) wf)) ∙ is) zero_y (was e z m);
     }
   where
     was : (e : ℕ) (y : Entry) → MayBe g (complete k d) e y → MayBe g d e y
@@ -214,10 +214,10 @@ module _ (g : Shape) (h : History) (M : ℕ → ℕ) (d n : Meaning) (sized : si
             let r = named_in g o d D e p x y l (was e y m) at pos in
             record { quiet = image_quiet x; bytes = q.bytes; shows = quiet_shown n x (image_quiet x) ∙ (image_keeps x r.1 q.quiet ∙ q.shows); placed = q.placed };
         metered = λ e y l m. P.metered e y l (was e y m);
-        unmetered = λ e y z l is zero-y m.
+        unmetered = λ e y z l is zero_y m.
             let both : Some y ≡ Some z = sym is ∙ may_quiet g n e z (image_quiet (entry_at e)) m in
             let same : y ≡ z = cc in
-            sym (ap (λ (w : Entry). w.meter) same) ∙ zero-y;
+            sym (ap (λ (w : Entry). w.meter) same) ∙ zero_y;
       }
     where
       was : (e : ℕ) (y : Entry) → MayBe g n e y → MayBe g d e y
@@ -242,12 +242,12 @@ module _ (g : Shape) (h h' : History) (o : Ledger) (d d' : Meaning) (fs : List (
 
   -- no file changes
   pub files_on : ((i : ℕ) → entry_of_file h' i ≡ entry_of_file h i) → ((e : ℕ) → meter_of_entry h' e ≡ meter_of_entry h e) → InFiles h' d' fs
-  files_on same-entry same-meter =
+  files_on same_entry same_meter =
       record {
         nulled = nulled_on;
         took = λ i f file.
             let q = P.took i f file in
-            (same-entry i ∙ q.0, same-meter f.entry ∙ q.1, q.2);
+            (same_entry i ∙ q.0, same_meter f.entry ∙ q.1, q.2);
       }
 
   -- one file is put in place
@@ -257,7 +257,7 @@ module _ (g : Shape) (h h' : History) (o : Ledger) (d d' : Meaning) (fs : List (
       → ((p x : ℕ) → get_or f.slots p Empty ≡ Nulled x → (bs : List ℕ) × (shown d' x ≡ readable bs) × Placed h' f.entry f.meter p bs)
       → (entry_of_file h' i ≡ Some f.entry) × (meter_of_entry h' f.entry ≡ f.meter) × (0 < f.meter)
       → InFiles h' d' (set fs i (Some f))
-  files_in i f only same-entry same-meter new now =
+  files_in i f only same_entry same_meter new now =
       record { nulled = nulled'; took = took' }
     where
       cases : (j : ℕ) (f' : File) → get_or (set fs i (Some f)) j None ≡ Some f' → ((j ≡ i) × (f ≡ f')) ⊎ ((j ≡ i → ⊥) × (f'.entry ≡ f.entry → ⊥) × (get_or fs j None ≡ Some f'))
@@ -292,5 +292,5 @@ module _ (g : Shape) (h h' : History) (o : Ledger) (d d' : Meaning) (fs : List (
                 (subst (λ (k : ℕ). (entry_of_file h' k ≡ Some f.entry) × (meter_of_entry h' f.entry ≡ f.meter) × (0 < f.meter)) (sym q.0) now)
             | inr q ↦
                 let r = P.took j f' q.2 in
-                (same-entry j q.0 ∙ r.0, same-meter f'.entry q.1 ∙ r.1, r.2)
+                (same_entry j q.0 ∙ r.0, same_meter f'.entry q.1 ∙ r.1, r.2)
           ]

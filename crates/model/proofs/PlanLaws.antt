@@ -843,8 +843,8 @@ module _ (g : Region) where
   found id s kept i (suc n) u e =
       let x = mended g kept (whole_entry_in_state id (s (entry_at i))) in
       elim (cases_Bool (shows (s (entry_at i)) (entry_bytes id x))) [
-        | inl as-mended ↦
-            let rest = found id s (x.slots ++ kept) (i + 1) n u (rw as-mended at e) in
+        | inl as_mended ↦
+            let rest = found id s (x.slots ++ kept) (i + 1) n u (rw as_mended at e) in
             let above = rest.0 in
             let below = rest.1 in
             let next : u.number - i ≡ suc (u.number - (i + 1)) = omega arith in
@@ -867,7 +867,7 @@ module _ (g : Region) where
       let x = mended g kept (whole_entry_in_state id (s (entry_at i))) in
       elim (cases_Bool (shows (s (entry_at i)) (entry_bytes id x))) [
         | inr other ↦ absurd (some_one (record { number = i; form = x }) (rw other at e))
-        | inl as-mended ↦ by j (same_true (bytes_in (s (entry_at i))) (entry_bytes id x) as-mended) (λ q. all_found id s (x.slots ++ kept) (i + 1) n q (rw as-mended at e)) lt
+        | inl as_mended ↦ by j (same_true (bytes_in (s (entry_at i))) (entry_bytes id x) as_mended) (λ q. all_found id s (x.slots ++ kept) (i + 1) n q (rw as_mended at e)) lt
       ]
     where
       by : (j : ℕ) → bytes_in (s (entry_at i)) ≡ entry_bytes id (mended g kept (whole_entry_in_state id (s (entry_at i))))

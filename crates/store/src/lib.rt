@@ -1,4 +1,4 @@
-// The record store of a meter collector: the calls on a volume.
+// Making a new volume on a bare drive, and a look at a volume.
 #![tactic(auto)]
 
 mod layout;

@@ -2,7 +2,7 @@
 ghost use Rattle.std.specs.Prelude.{◌≡◌, length, replicate, OnErr};
 ghost use Rattle.model.specs.Calls as call;
 ghost use Rattle.model.specs.Carried.{CarriesOut, ComesTo, HandsBack, replied, replied_with};
-ghost use Rattle.model.specs.Outcomes.{page as page-reply};
+ghost use Rattle.model.specs.Outcomes.{page as page_reply};
 ghost use Rattle.model.specs.Plans.{read_plan};
 ghost use Rattle.model.specs.Replies.{done_reply};
 ghost use Rattle.volumes.specs.Volumes.{volume_of, rules};
@@ -71,7 +71,7 @@ impl<D: Drive> Volume<D> {
         slot: usize,
         page: &mut [u8],
     ) -> Result<(), Fault>
-        ensures carried { CarriesOut (rules D.Of.Kind.depth D.Of.Kind.life) (call.read (length page.old) file slot) (volume_of D.meaning self.old) (volume_of D.meaning self.new) (replied (λ _. page-reply page.new) result) }
+        ensures carried { CarriesOut (rules D.Of.Kind.depth D.Of.Kind.life) (call.read (length page.old) file slot) (volume_of D.meaning self.old) (volume_of D.meaning self.new) (replied (λ _. page_reply page.new) result) }
         ensures zero { OnErr result (page.new ≡ replicate (length page.old) 0) }
     {
         match self.read_page(file, slot, page) {
@@ -84,7 +84,7 @@ impl<D: Drive> Volume<D> {
     }
 
     fn read_page(&self, file: usize, slot: usize, page: &mut [u8]) -> Result<(), Fault>
-        ensures { ComesTo (read_plan (length page.old) file slot (D.meaning self.now.drive) (volume_of D.meaning self.now).memory) (volume_of D.meaning self.now) (volume_of D.meaning self.now) (replied (λ _. page-reply page.new) result) }
+        ensures { ComesTo (read_plan (length page.old) file slot (D.meaning self.now.drive) (volume_of D.meaning self.now).memory) (volume_of D.meaning self.now) (volume_of D.meaning self.now) (replied (λ _. page_reply page.new) result) }
     {
         ask_page(page.len())?;
         self.memory.ask_open()?;
