@@ -1,5 +1,10 @@
 // The page that a caller hands in, as work memory: all zero again on every way out of a call.
-ghost use Rattle.std.specs.Prelude.{◌≡◌, length, replicate};
+ghost use Rattle.std.specs.Prelude.{◌≡◌, length, replicate, ◌==◌};
+ghost use Rattle.model.specs.Carried.{asked};
+ghost use Rattle.reading.specs.Told.{told_with};
+
+use drive::fault::{Fault, Question};
+use record::control::RECORD;
 
 pub struct Work<'a>(pub &'a mut [u8]);
 
@@ -9,5 +14,15 @@ impl Drop for Work<'_> {
     {
         self.0.fill(0);
         let Work(_) = self;
+    }
+}
+
+// Is the page 512 bytes? It is lent as an array.
+pub fn ask_page(page: &mut [u8]) -> Result<&mut [u8; RECORD], Fault>
+    ensures { told_with (λ _. tt) result ≡ asked 1 (length page.old == 512) }
+{
+    match page.as_mut_array::<RECORD>() {
+        Some(record) => Ok(record),
+        None => Err(Question::PageLength.refused()),
     }
 }

@@ -7,6 +7,7 @@ ghost use Rattle.store.specs.Through.{after_writing};
 
 use drive::device::Drive;
 use drive::fault::Fault;
+use record::control::RECORD;
 
 // Steps until nothing is outstanding.
 pub(crate) fn complete_all<D: Drive>(drive: &mut D)
@@ -16,7 +17,7 @@ pub(crate) fn complete_all<D: Drive>(drive: &mut D)
 }
 
 // Posts a write and completes it.
-pub(crate) fn write_through<D: Drive>(drive: &mut D, at: u16, page: &[u8]) -> Result<(), Fault>
+fn write_through<D: Drive>(drive: &mut D, at: u16, page: &[u8; RECORD]) -> Result<(), Fault>
     ensures answer { said result ≡ post_answer D.Of.Kind.depth D.Of.Kind.life (D.meaning drive.old) at (length page.now) }
     ensures after { D.meaning drive.new ≡ after_writing result (D.meaning drive.old) at page.now }
 {
@@ -26,8 +27,7 @@ pub(crate) fn write_through<D: Drive>(drive: &mut D, at: u16, page: &[u8]) -> Re
 }
 
 // The same where nothing can be asked any more: nothing is outstanding, and there is life for the write.
-pub(crate) fn write_next<D: Drive>(drive: &mut D, at: u16, page: &[u8]) -> Result<(), Fault>
-    requires paged { length page.now ≡ 512 }
+pub(crate) fn write_next<D: Drive>(drive: &mut D, at: u16, page: &[u8; RECORD]) -> Result<(), Fault>
     requires inside { at < size (D.meaning drive.old) }
     requires quiet { (D.meaning drive.old).outstanding ≡ [] }
     requires alive { (D.meaning drive.old).wear < D.Of.Kind.life }

@@ -1,4 +1,4 @@
-use Rattle.std.proofs.Common.{◌≡◌, length, replicate, sym, ap, ◌∙◌, subst, arith}
+use Rattle.std.proofs.Common.{◌≡◌, length, replicate, sym, ap, ◌∙◌, subst, arith, rules}
 use Rattle.drive.specs.Meaning.{size}
 use Rattle.drive.proofs.MeaningLaws.{length_settle}
 use Rattle.model.specs.Outcomes.{Rules}
@@ -11,11 +11,10 @@ use Rattle.store.proofs.making.make.Goals as goal
 pub write_volume-requires : goal.write_volume-requires
 write_volume-requires g c =
     let before = g.D.Drive.meaning c.args.drive.now in
-    let yes = make_accepted g.D.Of.Kind.life before c.args.id c.args.entries (length c.args.page.now) c.in_ok-ask_make.ensures in
+    let yes = make_accepted g.D.Of.Kind.life before c.args.id c.args.entries (length c.args.page.now) c.in_ok-record.ensures in
     let is = c.complete_all.ensures in
     let same = ap size is ∙ length_settle before.outstanding before.settled in
     record {
-      paged = yes.0;
       sized = ap (in_limits c.args.id c.args.entries) same ∙ yes.1;
       quiet = ap (λ m. m.outstanding) is;
       alive = omega (arith, ap (λ m. m.wear) is, yes.2);
@@ -25,16 +24,15 @@ pub returns : goal.returns
 returns g c =
     let m = g.D.Drive.meaning in
     let before = m c.args.drive.now in
-    let yes = make_accepted g.D.Of.Kind.life before c.args.id c.args.entries (length c.args.page.now) c.in_ok-ask_make.ensures in
-    let long : length c.write_volume.new.page ≡ length c.args.page.now = omega arith in
+    let yes = make_accepted g.D.Of.Kind.life before c.args.id c.args.entries (length c.args.page.now) c.in_ok-record.ensures in
     let id = c.args.id in
     let e = c.args.entries in
     let formed = g.D.Drive.formed c.args.drive.now in
-    let rules : Rules = record { depth = g.D.Of.Kind.depth; life = g.D.Of.Kind.life } in
+    let kind : Rules = record { depth = g.D.Of.Kind.depth; life = g.D.Of.Kind.life } in
     let new = made_new before (m c.complete_all.new.drive) (m c.write_volume.new.drive) id e formed yes.1 c.complete_all.ensures c.write_volume.ensures.after in
     record {
-      answer = c.in_ok-ask_make.ensures;
+      answer = c.in_ok-record.ensures;
       after = new;
-      zero = c.drop-work-2.ensures ∙ ap (λ n. replicate n 0) long;
-      unharmed = subst (NoPowerCutHarms rules id e) (sym new) (no_power_cut_harms_a_volume rules before id e g.met.D.Of.Kind.deep g.met.D.Of.Kind.lasting formed (omega arith) yes.1);
+      zero = search rules;
+      unharmed = subst (NoPowerCutHarms kind id e) (sym new) (no_power_cut_harms_a_volume kind before id e g.met.D.Of.Kind.deep g.met.D.Of.Kind.lasting formed (omega arith) yes.1);
     }

@@ -5,4 +5,4 @@ use Rattle.store.proofs.making.write_entries.Given as goal
 -- the first i entries are written
 abbrev pub invariant-loop-i : goal.invariant-loop-i
 invariant-loop-i g l =
-    let m = g.D.Drive.meaning in m l.drive ≡ written (writes_of (entry_write l.id) l.i) (m l.initial.drive)
+    let m = g.D.Drive.meaning in m l.drive ≡ written (writes_of (entry_write l.label.id) l.i) (m l.initial.drive)

@@ -6,4 +6,4 @@ use Rattle.store.proofs.making.write_map.Given as goal
 abbrev pub invariant-loop-k : goal.invariant-loop-k
 invariant-loop-k g l =
     let m = g.D.Drive.meaning in
-    m l.drive ≡ written (writes_of (section_write l.id l.entries l.records) l.k) (m l.initial.drive)
+    m l.drive ≡ written (writes_of (section_write l.label.id l.label.entries l.label.records) l.k) (m l.initial.drive)
