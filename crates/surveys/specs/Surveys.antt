@@ -1,6 +1,7 @@
 -- What a look at a volume finds.
-use Rattle.std.specs.Prelude.{ℕ, ◌+◌, Bool, true, false, cond, not, List, [], ◌∷◌, Some, None, Ok, Err, sum_by, count_by, Option, Result, ◌==◌}
+use Rattle.std.specs.Prelude.{ℕ, ◌+◌, Bool, false, cond, not, List, [], ◌∷◌, Some, None, Ok, Err, sum_by, count_by, Option, Result, ◌==◌}
 use Rattle.std.specs.List.{range_with_len}
+use Rattle.std.specs.Option.{option_map, is_some}
 use Rattle.drive.specs.Faults.{Refusal, refusal, no_record}
 use Rattle.drive.specs.Meaning.{Meaning, shown}
 use Rattle.record.specs.declared.label.Label.{Label}
@@ -12,21 +13,13 @@ use Rattle.model.specs.Shown.{label_shown, section_in_state, entry_in_state}
 use Rattle.surveys.specs.declared.survey.Survey.{Survey}
 use Rattle.surveys.specs.declared.survey.SectionFigures.{SectionFigures}
 
-abbrev pub is_sound : {X : Type 0} → Option X → Bool
-is_sound None = false
-is_sound (Some x) = true
-
-abbrev pub free_in : Option Section → ℕ
-free_in None = 0
-free_in (Some x) = free_count x.bits
-
 -- section k as the drive shows it, of the volume with this label
 abbrev pub section_found : Meaning → Label → ℕ → Option Section
 section_found m l k = section_in_state l.id l.entries l.records k (shown m (1 + k))
 
 abbrev pub figures_of : Meaning → Label → ℕ → SectionFigures
 figures_of m l k =
-    record { sound = is_sound (section_found m l k); covered = (map_span k l.entries l.records).covered; free = free_in (section_found m l k) }
+    record { covered = (map_span k l.entries l.records).covered; free = option_map (λ x. free_count x.bits) (section_found m l k) }
 
 -- entry i as the drive shows it
 abbrev pub entry_found : Meaning → Label → ℕ → Option Entry
@@ -59,7 +52,7 @@ survey_of m l =
       label = l;
       sections = figures_of m l 0 ∷ figures_of m l 1 ∷ figures_of m l 2 ∷ [];
       free_entries = entries_that is_free_entry m l l.entries;
-      sound_entries = entries_that is_sound m l l.entries;
+      sound_entries = entries_that is_some m l l.entries;
       named_pages = pages_named m l l.entries;
     }
 

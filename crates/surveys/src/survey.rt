@@ -1,22 +1,21 @@
 // A look at a volume on a drive: its label, its map and its entries, as they show. Nothing is posted.
 ghost use Rattle.std.specs.Prelude.{◌≡◌, ◌≤◌, length, replicate};
 ghost use Rattle.drive.specs.Faults.{said};
-ghost use Rattle.surveys.specs.Surveys.{survey_answer, figures_of, entries_that, is_free_entry, is_sound, addresses_in, pages_named};
+ghost use Rattle.surveys.specs.Surveys.{survey_answer, survey_of, figures_of, entries_that, is_free_entry, addresses_in, pages_named};
+ghost use Rattle.std.specs.Option.{is_some};
 
 use drive::device::Drive;
-use drive::fault::{Fault, Question};
-use reading::shown::{believed_label, sound_entry, sound_section};
-use reading::work::Work;
+use drive::fault::Fault;
+use reading::shown::Records;
+use reading::work::{Work, ask_page};
 use record::control::RECORD;
 use record::label::Label;
-use record::region::Span;
 
-// A map section: whether it is sound, how many of the covered addresses exist, and how many are free.
+// A map section: how many of the addresses that it covers exist, and how many are free, where it is sound.
 #[derive(Clone, Copy, Debug)]
 pub struct SectionFigures {
-    pub sound: bool,
     pub covered: u32,
-    pub free: u32,
+    pub free: Option<u32>,
 }
 
 #[derive(Drop)]
@@ -34,79 +33,65 @@ pub fn look<D: Drive>(drive: &D, page: &mut [u8]) -> Result<Survey, Fault>
     ensures zero { page.new ≡ replicate (length page.old) 0 }
 {
     let work = Work(page);
-    if work.0.len() != RECORD {
-        return Err(Question::PageLength.refused());
+    let record = ask_page(&mut *work.0)?;
+    let records = Records::believed(drive, record)?;
+    Ok(survey_of(&records, record))
+}
+
+fn survey_of<D: Drive>(records: &Records<D>, page: &mut [u8; RECORD]) -> Survey
+    ensures { result ≡ survey_of (D.meaning records.now.drive.now) records.now.label }
+{
+    let sections = [
+        section_figures(records, 0, page),
+        section_figures(records, 1, page),
+        section_figures(records, 2, page),
+    ];
+    let counts = count_entries(records, page);
+    Survey {
+        label: records.label,
+        sections,
+        free_entries: counts.free,
+        sound_entries: counts.sound,
+        named_pages: counts.named,
     }
-    let Some(label) = believed_label(drive, &mut *work.0) else {
-        return Err(Question::Believed.refused());
+}
+
+fn section_figures<D: Drive>(records: &Records<D>, k: u8, page: &mut [u8; RECORD]) -> SectionFigures
+    ensures { result ≡ figures_of (D.meaning records.now.drive.now) records.now.label k }
+{
+    SectionFigures {
+        covered: records.span(k).covered,
+        free: records.section(k, page).map(|section| section.count()),
+    }
+}
+
+// How many entries show free, how many show sound, and how many pages the sound ones name.
+#[derive(Clone, Copy)]
+struct EntryCounts {
+    free: u16,
+    sound: u16,
+    named: u32,
+}
+
+fn count_entries<D: Drive>(records: &Records<D>, page: &mut [u8; RECORD]) -> EntryCounts
+    ensures free { result.free ≡ entries_that is_free_entry (D.meaning records.now.drive.now) records.now.label records.now.label.entries }
+    ensures sound { result.sound ≡ entries_that is_some (D.meaning records.now.drive.now) records.now.label records.now.label.entries }
+    ensures named { result.named ≡ pages_named (D.meaning records.now.drive.now) records.now.label records.now.label.entries }
+{
+    let mut counts = EntryCounts {
+        free: 0,
+        sound: 0,
+        named: 0,
     };
-    let first = section_figures(drive, &label, 0, &mut *work.0);
-    let second = section_figures(drive, &label, 1, &mut *work.0);
-    let third = section_figures(drive, &label, 2, &mut *work.0);
-    let (free_entries, sound_entries) = count_entries(drive, &label, &mut *work.0);
-    let named_pages = count_named(drive, &label, &mut *work.0);
-    Ok(Survey {
-        label,
-        sections: [first, second, third],
-        free_entries,
-        sound_entries,
-        named_pages,
-    })
-}
-
-fn section_figures<D: Drive>(drive: &D, label: &Label, k: u8, page: &mut [u8]) -> SectionFigures
-    requires { length page.old ≡ 512 }
-    ensures { result ≡ figures_of (D.meaning drive.now) label.now k }
-{
-    let covered = Span::of_map(k, label.entries, label.records).covered;
-    match sound_section(drive, label, k, page) {
-        Some(section) => SectionFigures {
-            sound: true,
-            covered,
-            free: section.count(),
-        },
-        None => SectionFigures {
-            sound: false,
-            covered,
-            free: 0,
-        },
+    for i in 0..records.label.entries {
+        let Some(entry) = records.entry(i, page) else {
+            continue;
+        };
+        counts.sound += 1;
+        counts.free += u16::from(entry.is_free());
+        counts.named += count_addresses(&entry.slots);
     }
-}
-
-// How many entries show free, and how many show sound.
-fn count_entries<D: Drive>(drive: &D, label: &Label, page: &mut [u8]) -> (u16, u16)
-    requires paged { length page.old ≡ 512 }
-    requires few { label.now.entries ≤ 3968 }
-    ensures free { result.0 ≡ entries_that is_free_entry (D.meaning drive.now) label.now label.now.entries }
-    ensures sound { result.1 ≡ entries_that is_sound (D.meaning drive.now) label.now label.now.entries }
-{
-    let mut free = 0u16;
-    let mut sound = 0u16;
-    for i in 0..label.entries {
-        if let Some(entry) = sound_entry(drive, label, i, page) {
-            sound += 1;
-            if entry.is_free() {
-                free += 1;
-            }
-        }
-    }
-    (free, sound)
-}
-
-// How many pages the sound entries name.
-fn count_named<D: Drive>(drive: &D, label: &Label, page: &mut [u8]) -> u32
-    requires paged { length page.old ≡ 512 }
-    requires few { label.now.entries ≤ 3968 }
-    ensures { result ≡ pages_named (D.meaning drive.now) label.now label.now.entries }
-{
-    let mut named = 0u32;
-    for i in 0..label.entries {
-        if let Some(entry) = sound_entry(drive, label, i, page) {
-            let here = count_addresses(&entry.slots);
-            named += here;
-        }
-    }
-    named
+    counts
 }
 
 // How many slots hold an address.
@@ -114,11 +99,5 @@ fn count_addresses(slots: &[u16; 64]) -> u32
     ensures value { result ≡ addresses_in slots.now }
     ensures bound { result ≤ 64 }
 {
-    let mut count = 0u32;
-    for a in slots.iter() {
-        if *a != 0 {
-            count += 1;
-        }
-    }
-    count
+    slots.iter().filter(|a| **a != 0).count() as u32
 }

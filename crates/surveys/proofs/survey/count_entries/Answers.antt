@@ -1,36 +1,15 @@
-use Rattle.std.proofs.Common.{◌≡◌, ℕ, ◌+◌, cond, Some, None, ap, ◌∙◌, arith}
-use Rattle.surveys.specs.Surveys.{is_free_entry, is_sound}
-use Rattle.surveys.proofs.SurveyLaws.{count_next}
+use Rattle.std.proofs.Common.{◌+◌, cond, Some, None, ap, ◌∙◌, arith}
+use Rattle.surveys.proofs.SurveyLaws.{counted_more, byte_is}
 use Rattle.surveys.proofs.survey.count_entries.Goals as goal
-use Rattle.surveys.proofs.survey.count_entries.Goals.{in-Some+then-is_free, in-Some+else-is_free, in_default}
 
 pub loop-i-preserved : goal.loop-i-preserved
 loop-i-preserved g c =
-    let m = g.D.Drive.meaning c.args.drive.now in
-    let l = c.args.label.now in
-    let i = c.loop-i.i in
-    let free = c.loop-i.free in
-    let inv = c.loop-i.invariant in
-    elim c.match-sound_entry.branch [
-      | in-Some+then-is_free w ↦ (
-        count_next is_free_entry m l i free (Some w.in-Some.entry) _ w.in-Some.ensures inv.0 (w.free-is ∙ ap (λ b. free + cond b 1 0) w.if-is_free.ensures),
-        count_next is_sound m l i c.loop-i.sound (Some w.in-Some.entry) _ w.in-Some.ensures inv.1 w.sound-is,
-        omega (arith, w.free-is, inv.2),
-        omega (arith, w.sound-is, inv.3),
-      )
-      | in-Some+else-is_free w ↦ (
-        count_next is_free_entry m l i free (Some w.in-Some.entry) _ w.in-Some.ensures inv.0 (w.free-is ∙ (none free ∙ ap (λ b. free + cond b 1 0) w.if-is_free.ensures)),
-        count_next is_sound m l i c.loop-i.sound (Some w.in-Some.entry) _ w.in-Some.ensures inv.1 w.sound-is,
-        omega (arith, w.free-is, inv.2),
-        omega (arith, w.sound-is, inv.3),
-      )
-      | in_default w ↦ (
-        count_next is_free_entry m l i free None _ w.in_default.ensures inv.0 (w.free-is ∙ none free),
-        count_next is_sound m l i c.loop-i.sound None _ w.in_default.ensures inv.1 (w.sound-is ∙ none c.loop-i.sound),
-        omega (arith, w.free-is, inv.2),
-        omega (arith, w.sound-is, inv.3),
-      )
-    ]
-  where
-    none : (n : ℕ) → n ≡ n + 0
-    none n = omega arith
+    let n = c.loop-i.counts in
+    let pages = c.count_addresses.ensures in
+    let is_one = c.from.ensures ∙ (byte_is c.is_free.result ∙ ap (λ b. cond b 1 0) c.is_free.ensures) in
+    counted_more _ _ n.free n.sound n.named c.loop-i.i (Some c.in-Some.entry) _ _ _ c.in-Some.ensures c.loop-i.invariant (ap (λ k. n.free + k) is_one) (omega arith) (ap (λ k. n.named + k) pages.value) (omega (arith, pages.value, pages.bound))
+
+pub loop-i-preserved-in_default : goal.loop-i-preserved-in_default
+loop-i-preserved-in_default g c =
+    let n = c.loop-i.counts in
+    counted_more _ _ n.free n.sound n.named c.loop-i.i None _ _ _ c.in_default.ensures c.loop-i.invariant (omega arith) (omega arith) (omega arith) (omega arith)
