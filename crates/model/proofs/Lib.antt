@@ -7,6 +7,7 @@ pub mod Parts
 pub mod Meets
 pub mod FileCalls
 pub mod MapCalls
+pub mod Mapped
 pub mod SalvageCalls
 pub mod ReachedLaws
 pub mod Pages

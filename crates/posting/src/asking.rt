@@ -4,17 +4,6 @@ ghost use Rattle.drive.specs.Faults.{said};
 ghost use Rattle.model.specs.Carried.{asked};
 
 use drive::fault::{Fault, Question};
-use record::control::RECORD;
-
-// Is the page 512 bytes?
-pub fn ask_page(length: usize) -> Result<(), Fault>
-    ensures { said result ≡ asked 1 (length == 512) }
-{
-    if length != RECORD {
-        return Err(Question::PageLength.refused());
-    }
-    Ok(())
-}
 
 // Has the tally a byte for each record?
 pub fn ask_tally(length: usize, records: usize) -> Result<(), Fault>

@@ -9,6 +9,7 @@ use drive::device::Drive;
 use drive::fault::Fault;
 use model::memory::Slot;
 use reading::layout::{FIRST_ENTRY, SUM_START};
+use record::control::RECORD;
 use record::entry::Entry;
 
 // Posts the record of entry `number` of the volume with this id.
@@ -17,10 +18,9 @@ pub fn post_entry<D: Drive>(
     id: u32,
     number: u16,
     entry: &Entry,
-    page: &mut [u8],
+    page: &mut [u8; RECORD],
 ) -> Result<(), Fault>
-    requires paged { length page.old ≡ 512 }
-    requires numbered { number < 3968 }
+    requires { number < 3968 }
     ensures answer { said result ≡ post_answer D.Of.Kind.depth D.Of.Kind.life (D.meaning drive.old) (entry_at number) (length (entry_bytes id entry.now)) }
     ensures after { PostLeaves result (D.meaning drive.old) (entry_at number) (entry_bytes id entry.now) (D.meaning drive.new) }
 {
@@ -29,14 +29,10 @@ pub fn post_entry<D: Drive>(
 }
 
 // What an update makes of the slots, as long as the drive can be asked.
-pub fn moved_slots<D: Drive>(drive: &D, slots: &[Slot; 64]) -> [Slot; 64]
-    ensures { result ≡ map (updated (D.meaning drive.now)) slots.now }
+pub fn moved_slots<D: Drive>(drive: &D, slots: [Slot; 64]) -> [Slot; 64]
+    ensures { result ≡ map (updated (D.meaning drive.now)) slots }
 {
-    let mut moved = [Slot::Empty; 64];
-    for (p, slot) in slots.iter().enumerate() {
-        moved[p] = moved_slot(drive, *slot);
-    }
-    moved
+    slots.map(|slot| moved_slot(drive, slot))
 }
 
 pub fn moved_slot<D: Drive>(drive: &D, slot: Slot) -> Slot

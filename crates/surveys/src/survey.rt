@@ -41,11 +41,7 @@ pub fn look<D: Drive>(drive: &D, page: &mut [u8]) -> Result<Survey, Fault>
 fn survey_of<D: Drive>(records: &Records<D>, page: &mut [u8; RECORD]) -> Survey
     ensures { result ≡ survey_of (D.meaning records.now.drive.now) records.now.label }
 {
-    let sections = [
-        section_figures(records, 0, page),
-        section_figures(records, 1, page),
-        section_figures(records, 2, page),
-    ];
+    let sections = [0, 1, 2].map(|k| section_figures(records, k, page));
     let counts = count_entries(records, page);
     Survey {
         label: records.label,

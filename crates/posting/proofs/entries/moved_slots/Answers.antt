@@ -1,17 +1,11 @@
-use Rattle.std.proofs.Common.{◌∙◌, arith}
-use Rattle.std.proofs.lemmas.List.{length-set}
+use Rattle.std.proofs.Common.{◌≡◌, length, refl, rules}
+use borrow.Author.Tests.{tests}
 use Rattle.model.specs.declared.memory.Slot.TheVariants.{Empty}
 use Rattle.model.specs.Slots.{updated}
-use Rattle.memory.proofs.Filled.{filled_more, filled_all}
+use Rattle.model.proofs.Mapped.{mapped_by}
 use Rattle.posting.proofs.entries.moved_slots.Goals as goal
-
-pub loop-p-preserved : goal.loop-p-preserved
-loop-p-preserved g c =
-    let i = c.loop-p.invariant in (
-      length-set c.loop-p.moved c.loop-p.p _ ∙ i.0,
-      filled_more (updated (g.D.Drive.meaning c.args.drive.now)) c.args.slots.now c.loop-p.moved c.loop-p.p Empty _ (omega arith) (omega arith) i.1 c.moved_slot.ensures,
-    )
 
 pub returns : goal.returns
 returns g c =
-    filled_all (updated (g.D.Drive.meaning c.args.drive.now)) c.args.slots.now c.loop-p.moved c.loop-p.p (omega arith) (omega arith) c.loop-p.invariant.1
+    mapped_by _ (λ f. f.0 ≡ c.args.drive) (updated (g.D.Drive.meaning c.args.drive.now)) _ _ (λ p q x y s e. search (rules, tests, s, e))
+    _ Empty 64 refl (search rules) c.map.ensures.items
