@@ -25,11 +25,11 @@ module _ (l : Label) (s : States) where
   section_exact tally k bytes T is =
       is ∙ (λ j. section_bytes l.id l.entries l.records k (bits_of (λ r. kept_when (pages_of l) tally (named_in l s) (first_of k + r) T j)))
 
-  -- what is told of section k by the page that its record, at 1 + j, was read into
-  pub section_told : (k j : ℕ) (read r : Bool) (page bytes : List ℕ) → j ≡ k → bytes_in (s (1 + j)) ≡ cond read page [] → bytes ≡ exact k → r ≡ same (cond read page []) bytes
+  -- what is told of section k by the bytes that its record, at 1 + j, shows
+  pub section_told : (k j : ℕ) (r : Bool) (page bytes : List ℕ) → j ≡ k → bytes_in (s (1 + j)) ≡ page → bytes ≡ exact k → r ≡ same page bytes
       → r ≡ shows (s (section_at k)) (exact k)
-  section_told k j read r page bytes is seen form r_is =
-      let here : bytes_in (s (section_at k)) ≡ cond read page [] = ap (λ n. bytes_in (s (1 + n))) (sym is) ∙ seen in
+  section_told k j r page bytes is seen form r_is =
+      let here : bytes_in (s (section_at k)) ≡ page = ap (λ n. bytes_in (s (1 + n))) (sym is) ∙ seen in
       r_is ∙ (λ i. same (sym here i) (form i))
 
   abbrev pub inexact_from : ℕ → ℕ → Option ℕ

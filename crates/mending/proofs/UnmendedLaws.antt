@@ -22,10 +22,10 @@ abbrev pub FormMade : Region → List ℕ → Option Entry → Entry → List �
 FormMade g t whole form t' = ((kept : List ℕ) → Tallies g t kept → form ≡ mended g kept whole) × Adds g form.slots t t'
 
 -- the answer for one entry, by whether the page that it was read into holds its form
-pub form_told : (l : Label) (g : Region) (s : State) (t t' : List ℕ) (read r : Bool) (page bytes : List ℕ) (whole : Option Entry) (form : Entry)
-    → g ≡ pages_of l → bytes_in s ≡ cond read page [] → whole ≡ whole_entry 0 l.id (cond read page []) → FormMade g t whole form t' → bytes ≡ entry_bytes l.id form → r ≡ same (cond read page []) bytes
+pub form_told : (l : Label) (g : Region) (s : State) (t t' : List ℕ) (r : Bool) (page bytes : List ℕ) (whole : Option Entry) (form : Entry)
+    → g ≡ pages_of l → bytes_in s ≡ page → whole ≡ whole_entry 0 l.id page → FormMade g t whole form t' → bytes ≡ entry_bytes l.id form → r ≡ same page bytes
     → (kept : List ℕ) → Tallies (pages_of l) t kept → (cond r None (Some form) ≡ unless_shown l s (form_of l kept s)) × Tallies (pages_of l) t' ((form_of l kept s).slots ++ kept)
-form_told l g s t t' read r page bytes whole form is seen whole_is made b e kept T =
+form_told l g s t t' r page bytes whole form is seen whole_is made b e kept T =
     let M : FormMade (pages_of l) t whole form t' = subst (λ (x : Region). FormMade x t whole form t') is made in
     let form_is : form ≡ form_of l kept s = M.0 kept T ∙ ap (mended (pages_of l) kept) (whole_is ∙ ap (whole_entry 0 l.id) (sym seen)) in
     let r_is : r ≡ shows s (entry_bytes l.id form) = e ∙ (λ j. same (sym seen j) (b j)) in (

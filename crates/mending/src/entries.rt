@@ -1,5 +1,6 @@
 // The entries: the form that each is mended to, and the lowest that does not show it.
-ghost use Rattle.std.specs.Prelude.{◌≡◌, ℕ, ◌+◌, ◌<◌, ◌≤◌, List, [], ◌++◌, length, if◌then◌else◌};
+ghost use Rattle.std.specs.Prelude.{◌≡◌, ℕ, ◌+◌, ◌<◌, ◌≤◌, List, [], ◌++◌, length};
+ghost use Rattle.std.specs.Option.{option_copied, unwrap_or};
 ghost use Rattle.drive.specs.Meaning.{shown};
 ghost use Rattle.mending.specs.Sought.{pages_of, form_of, unless_shown, unmended_in, unmended_of};
 ghost use Rattle.mending.specs.Tallies.{Tallies, Adds};
@@ -11,27 +12,23 @@ use crate::tally::{clear, note};
 use crate::unmended::Unmended;
 use drive::device::Drive;
 use reading::layout::{FIRST_ENTRY, SUM_START};
-use reading::shown::read_shown;
+use reading::shown::{Records, read_shown};
 use record::control::RECORD;
 use record::entry::Entry;
-use record::label::Label;
 use record::region::Region;
 
 // The lowest entry that does not show its mended form.
 pub(crate) fn first_unmended<D: Drive>(
-    drive: &D,
-    label: &Label,
-    page: &mut [u8],
+    records: &Records<D>,
+    page: &mut [u8; RECORD],
     tally: &mut [u8],
 ) -> Option<Unmended>
-    requires paged { length page.old ≡ 512 }
-    requires few { label.now.entries ≤ 3968 }
-    requires inside { label.now.records ≤ length tally.old }
-    ensures { unmended_of result ≡ unmended_in label.now (shown (D.meaning drive.now)) }
+    requires { records.now.label.records ≤ length tally.old }
+    ensures { unmended_of result ≡ unmended_in records.now.label (shown (D.meaning records.now.drive.now)) }
 {
     clear(tally);
-    for i in 0..label.entries {
-        if let Some(form) = unmended_form(drive, label, i, page, tally) {
+    for i in 0..records.label.entries {
+        if let Some(form) = unmended_form(records, i, page, tally) {
             return Some(Unmended { number: i, form });
         }
     }
@@ -40,38 +37,32 @@ pub(crate) fn first_unmended<D: Drive>(
 
 // The mended form of entry `i`, where its record does not show it. What the form keeps is noted.
 fn unmended_form<D: Drive>(
-    drive: &D,
-    label: &Label,
+    records: &Records<D>,
     i: u16,
-    page: &mut [u8],
+    page: &mut [u8; RECORD],
     tally: &mut [u8],
 ) -> Option<Entry>
-    requires paged { length page.old ≡ 512 }
     requires numbered { i < 3968 }
-    requires inside { label.now.records ≤ length tally.old }
-    ensures form { (kept : List ℕ) → Tallies (pages_of label.now) tally.old kept → result ≡ unless_shown label.now (shown (D.meaning drive.now) (8 + i)) (form_of label.now kept (shown (D.meaning drive.now) (8 + i))) }
-    ensures tally { (kept : List ℕ) → Tallies (pages_of label.now) tally.old kept → Tallies (pages_of label.now) tally.new ((form_of label.now kept (shown (D.meaning drive.now) (8 + i))).slots ++ kept) }
+    requires inside { records.now.label.records ≤ length tally.old }
+    ensures form { (kept : List ℕ) → Tallies (pages_of records.now.label) tally.old kept → result ≡ unless_shown records.now.label (shown (D.meaning records.now.drive.now) (8 + i)) (form_of records.now.label kept (shown (D.meaning records.now.drive.now) (8 + i))) }
+    ensures tally { (kept : List ℕ) → Tallies (pages_of records.now.label) tally.old kept → Tallies (pages_of records.now.label) tally.new ((form_of records.now.label kept (shown (D.meaning records.now.drive.now) (8 + i))).slots ++ kept) }
 {
-    let region = Region::of_pages(label.entries, label.records);
-    let read = read_shown(drive, FIRST_ENTRY + i, page);
-    let whole = whole_entry(read, page, label.id);
-    let form = mended_form(whole, &region, tally);
+    let id = records.label.id;
+    let shown = read_shown(records.drive, FIRST_ENTRY + i, page);
+    let form = mended_form(whole_entry(shown, id), &records.region(), tally);
     let mut bytes = [0; RECORD];
-    form.encode(SUM_START, label.id, &mut bytes);
-    if shows(read, page, &bytes) {
+    form.encode(SUM_START, id, &mut bytes);
+    if shows(shown, &bytes) {
         return None;
     }
     Some(form)
 }
 
-// The whole entry of a record, where it could be read into the page.
-fn whole_entry(read: bool, page: &[u8], id: u32) -> Option<Entry>
-    ensures { result ≡ whole_entry 0 id (if read then page.now else []) }
+// The whole entry of a record that could be read.
+fn whole_entry(shown: Option<&[u8; RECORD]>, id: u32) -> Option<Entry>
+    ensures { result ≡ whole_entry 0 id (unwrap_or (option_copied shown.entry) []) }
 {
-    if !read {
-        return None;
-    }
-    Entry::decode_whole(page, SUM_START, id)
+    Entry::decode_whole(shown?, SUM_START, id)
 }
 
 // The mended form of a whole entry, or of a record that is none. What the form keeps is noted.

@@ -13,57 +13,52 @@ use crate::tally::tally_named;
 use drive::device::Drive;
 use model::answers::Salvaged;
 use reading::layout::{FIRST_ENTRY, FIRST_SECTION, LABEL, SUM_START};
-use reading::shown::label_at;
+use reading::shown::{Records, label_at};
+use record::control::RECORD;
 use record::label::{Label, LabelState};
 
 // What a salvage posts next: its answer and the record's address. The page then holds the record's bytes.
 pub fn next_mend<D: Drive>(
-    drive: &D,
-    label: &Label,
-    page: &mut [u8],
+    records: &Records<D>,
+    page: &mut [u8; RECORD],
     tally: &mut [u8],
 ) -> (Salvaged, u16)
-    requires paged { length page.old ≡ 512 }
-    requires tallied { length tally.old ≡ size (D.meaning drive.now) }
-    requires believed { label_shown (D.meaning drive.now) ≡ Some label.now }
-    ensures { (g : Rules) (v : Memory) → salvaging g (D.meaning drive.now) v label.now ≡ post g (D.meaning drive.now) (salvaged_reply result.0) v (record { at = result.1; bytes = page.new }) }
+    requires tallied { length tally.old ≡ size (D.meaning records.now.drive.now) }
+    requires believed { label_shown (D.meaning records.now.drive.now) ≡ Some records.now.label }
+    ensures { (g : Rules) (v : Memory) → salvaging g (D.meaning records.now.drive.now) v records.now.label ≡ post g (D.meaning records.now.drive.now) (salvaged_reply result.0) v (record { at = result.1; bytes = page.new }) }
 {
-    if !has_begun(drive, page) {
+    if !has_begun(records.drive, page) {
         let begun = Label {
             state: LabelState::Salvage,
-            ..*label
+            ..records.label
         };
         begun.encode(SUM_START, page);
         return (Salvaged::Begun, LABEL);
     }
-    if let Some(unmended) = first_unmended(drive, label, page, tally) {
-        unmended.form.encode(SUM_START, label.id, page);
+    if let Some(unmended) = first_unmended(records, page, tally) {
+        unmended.form.encode(SUM_START, records.label.id, page);
         return (
             Salvaged::Entry(unmended.number),
             FIRST_ENTRY + unmended.number,
         );
     }
-    tally_named(drive, label, page, tally);
-    if let Some(k) = first_inexact(drive, label, page, tally) {
-        encode_exact(label, k, tally, page);
+    tally_named(records, page, tally);
+    if let Some(k) = first_inexact(records, page, tally) {
+        encode_exact(records, k, tally, page);
         return (Salvaged::Section(k), FIRST_SECTION + u16::from(k));
     }
     let ended = Label {
         state: LabelState::Closed,
         trouble: 0,
-        ..*label
+        ..records.label
     };
     ended.encode(SUM_START, page);
     (Salvaged::Ended, LABEL)
 }
 
 // Record 0 is believed, with the state of a salvage.
-fn has_begun<D: Drive>(drive: &D, page: &mut [u8]) -> bool
-    requires { length page.old ≡ 512 }
+fn has_begun<D: Drive>(drive: &D, page: &mut [u8; RECORD]) -> bool
     ensures { result ≡ is_salvage (label_in_state (size (D.meaning drive.now)) (shown (D.meaning drive.now) 0)) }
 {
-    let Some(label) = label_at(drive, LABEL, page) else {
-        return false;
-    };
-    label.state == LabelState::Salvage
+    label_at(drive, LABEL, page).is_some_and(|label| label.state == LabelState::Salvage)
 }

@@ -10,29 +10,25 @@ ghost use Rattle.record.specs.Regions.{map_span};
 use crate::shows::shows;
 use drive::device::Drive;
 use reading::layout::{FIRST_SECTION, SECTIONS, SUM_START};
-use reading::shown::read_shown;
+use reading::shown::{Records, read_shown};
 use record::control::RECORD;
-use record::label::Label;
 use record::region::{COVERED, Region, Span};
 use record::section::Section;
 
 // The lowest section that does not show exactly the addresses that the entries leave free. The tally has those that they name.
 pub(crate) fn first_inexact<D: Drive>(
-    drive: &D,
-    label: &Label,
-    page: &mut [u8],
+    records: &Records<D>,
+    page: &mut [u8; RECORD],
     tally: &[u8],
 ) -> Option<u8>
-    requires paged { length page.old ≡ 512 }
-    requires inside { label.now.records ≤ length tally.now }
-    requires named { Tallies (pages_of label.now) tally.now (named_in label.now (shown (D.meaning drive.now))) }
-    ensures { result ≡ inexact_in label.now (shown (D.meaning drive.now)) }
+    requires inside { records.now.label.records ≤ length tally.now }
+    requires named { Tallies (pages_of records.now.label) tally.now (named_in records.now.label (shown (D.meaning records.now.drive.now))) }
+    ensures { result ≡ inexact_in records.now.label (shown (D.meaning records.now.drive.now)) }
 {
     for k in 0..SECTIONS {
         let mut bytes = [0; RECORD];
-        encode_exact(label, k, tally, &mut bytes);
-        let read = read_shown(drive, FIRST_SECTION + u16::from(k), page);
-        if !shows(read, page, &bytes) {
+        encode_exact(records, k, tally, &mut bytes);
+        if !shows(read_shown(records.drive, FIRST_SECTION + u16::from(k), page), &bytes) {
             return Some(k);
         }
     }
@@ -40,14 +36,18 @@ pub(crate) fn first_inexact<D: Drive>(
 }
 
 // Writes section `k` over the whole page, with exactly the region's addresses free that are not noted.
-pub(crate) fn encode_exact(label: &Label, k: u8, tally: &[u8], page: &mut [u8])
-    requires paged { length page.old ≡ 512 }
+pub(crate) fn encode_exact<D: Drive>(
+    records: &Records<D>,
+    k: u8,
+    tally: &[u8],
+    page: &mut [u8; RECORD],
+)
     requires numbered { k < 3 }
-    requires inside { label.now.records ≤ length tally.now }
-    ensures { page.new ≡ section_bytes label.now.id label.now.entries label.now.records k (left_over_bits (map_span k label.now.entries label.now.records) tally.now) }
+    requires inside { records.now.label.records ≤ length tally.now }
+    ensures { page.new ≡ section_bytes records.now.label.id records.now.label.entries records.now.label.records k (left_over_bits (map_span k records.now.label.entries records.now.label.records) tally.now) }
 {
-    let span = Span::of_map(k, label.entries, label.records);
-    exact_section(&span, tally).encode(SUM_START, label.id, &span, page);
+    let span = records.span(k);
+    exact_section(&span, tally).encode(SUM_START, records.label.id, &span, page);
 }
 
 // The section with exactly those numbers free that may be free and are not noted.

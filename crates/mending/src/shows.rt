@@ -1,11 +1,16 @@
 // Whether a record shows just some bytes.
-ghost use Rattle.std.specs.Prelude.{◌≡◌, [], length, if◌then◌else◌};
+ghost use Rattle.std.specs.Prelude.{◌≡◌, []};
+ghost use Rattle.std.specs.Option.{option_copied, unwrap_or};
 ghost use Rattle.record.specs.Words.{same};
 
-// The record could be read into the page, and the page holds the bytes.
-pub(crate) fn shows(read: bool, page: &[u8], bytes: &[u8]) -> bool
-    requires { length bytes.now ≡ 512 }
-    ensures { result ≡ same (if read then page.now else []) bytes.now }
+use record::control::RECORD;
+
+// The record could be read, and holds the bytes.
+pub(crate) fn shows(shown: Option<&[u8; RECORD]>, bytes: &[u8; RECORD]) -> bool
+    ensures { result ≡ same (unwrap_or (option_copied shown.entry) []) bytes.now }
 {
-    read && page == bytes
+    let Some(page) = shown else {
+        return false;
+    };
+    page.as_slice() == bytes.as_slice()
 }

@@ -6,24 +6,26 @@ ghost use Rattle.mending.specs.Tallies.{noted, Tallies, Adds};
 ghost use Rattle.record.specs.Regions.{within};
 
 use drive::device::Drive;
-use reading::shown::sound_entry;
-use record::label::Label;
+use reading::shown::Records;
+use record::control::RECORD;
 use record::region::Region;
 
 // What a noted address has for its byte.
 const NOTED: u8 = 1;
 
 // Notes the addresses that the sound entries name, and no other.
-pub(crate) fn tally_named<D: Drive>(drive: &D, label: &Label, page: &mut [u8], tally: &mut [u8])
-    requires paged { length page.old ≡ 512 }
-    requires few { label.now.entries ≤ 3968 }
-    requires inside { label.now.records ≤ length tally.old }
-    ensures { Tallies (pages_of label.now) tally.new (named_in label.now (shown (D.meaning drive.now))) }
+pub(crate) fn tally_named<D: Drive>(
+    records: &Records<D>,
+    page: &mut [u8; RECORD],
+    tally: &mut [u8],
+)
+    requires { records.now.label.records ≤ length tally.old }
+    ensures { Tallies (pages_of records.now.label) tally.new (named_in records.now.label (shown (D.meaning records.now.drive.now))) }
 {
-    let region = Region::of_pages(label.entries, label.records);
+    let region = records.region();
     clear(tally);
-    for i in 0..label.entries {
-        if let Some(entry) = sound_entry(drive, label, i, page) {
+    for i in 0..records.label.entries {
+        if let Some(entry) = records.entry(i, page) {
             note_slots(&entry.slots, &region, tally);
         }
     }

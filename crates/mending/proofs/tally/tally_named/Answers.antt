@@ -9,22 +9,22 @@ use Rattle.mending.proofs.tally.tally_named.Goals as goal
 use Rattle.mending.proofs.tally.tally_named.Goals.{in-Some, in_default}
 
 pub loop-i-init : goal.loop-i-init
-loop-i-init g c = naming_none c.args.label.now (shown (g.D.Drive.meaning c.args.drive.now)) c.clear.new.tally c.clear.ensures
+loop-i-init g c = naming_none c.args.records.now.label (shown (g.D.Drive.meaning c.args.records.now.drive.now)) c.clear.new.tally c.clear.ensures
 
 pub loop-i-preserved : goal.loop-i-preserved
 loop-i-preserved g c =
-    let l = c.args.label.now in
+    let l = c.args.records.now.label in
     let before = c.loop-i.tally in
-    let after = c.match-sound_entry.tally in
-    let next = naming_more l (shown (g.D.Drive.meaning c.args.drive.now)) before after in
-    elim c.match-sound_entry.branch [
+    let after = c.match-entry.tally in
+    let next = naming_more l (shown (g.D.Drive.meaning c.args.records.now.drive.now)) before after in
+    elim c.match-entry.branch [
       | in-Some w ↦
           let slots = w.in-Some.entry.slots in
-          let adds : Adds (pages_of l) slots before w.note_slots.new.tally = subst (λ (r : Region). Adds r slots before w.note_slots.new.tally) c.of_pages-region.ensures w.note_slots.ensures in
+          let adds : Adds (pages_of l) slots before w.note_slots.new.tally = subst (λ (r : Region). Adds r slots before w.note_slots.new.tally) c.region-region.ensures w.note_slots.ensures in
           next slots c.loop-i.i (omega arith) (ap slots_or_none w.in-Some.ensures) (subst (Adds (pages_of l) slots before) (sym w.tally-is) adds) c.loop-i.invariant
       | in_default w ↦
           next [] c.loop-i.i (omega arith) (ap slots_or_none w.in_default.ensures) (subst (Adds (pages_of l) [] before) (sym w.tally-is) (λ a h. refl)) c.loop-i.invariant
     ]
 
 pub returns : goal.returns
-returns g c = naming_all c.args.label.now (shown (g.D.Drive.meaning c.args.drive.now)) c.loop-i.tally c.loop-i.i (omega arith) c.loop-i.invariant
+returns g c = naming_all c.args.records.now.label (shown (g.D.Drive.meaning c.args.records.now.drive.now)) c.loop-i.tally c.loop-i.i (omega arith) c.loop-i.invariant
