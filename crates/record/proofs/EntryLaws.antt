@@ -31,9 +31,8 @@ head_put : (id m : ℕ) → put (put (replicate 512 0) 0 id) 2 m ≡ unwords (he
 unfolding head_words
 head_put id m = refl
 
-pub head_start : (p q r : List ℕ) (n id m : ℕ) → n ≡ 512 → p ≡ replicate n 0 → q ≡ put p 0 id → r ≡ put q 2 m → r ≡ unwords (head_words id m)
-head_start p q r n id m l e f g =
-    g ∙ (ap (λ x. put x 2 m) (f ∙ ap (λ x. put x 0 id) (e ∙ ap (λ x. replicate x 0) l)) ∙ head_put id m)
+pub head_start : (p q r : List ℕ) (id m : ℕ) → p ≡ replicate 512 0 → q ≡ put p 0 id → r ≡ put q 2 m → r ≡ unwords (head_words id m)
+head_start p q r id m e f g = g ∙ (ap (λ x. put x 2 m) (f ∙ ap (λ x. put x 0 id) e) ∙ head_put id m)
 
 pub length_pack : (hs : List ℕ) → length (pack hs) ≡ length hs / 2
 length_pack [] = refl

@@ -25,8 +25,7 @@ impl Entry {
     }
 
     // Writes the entry over the whole page.
-    pub fn encode(&self, start: u32, id: u32, page: &mut [u8])
-        requires { length page.old ≡ 512 }
+    pub fn encode(&self, start: u32, id: u32, page: &mut [u8; 512])
         ensures { page.new ≡ entry_record start id self.now }
     {
         clear(page);
@@ -43,6 +42,7 @@ impl Entry {
     pub fn decode_whole(page: &[u8], start: u32, id: u32) -> Option<Entry>
         ensures { result ≡ whole_entry start id page.now }
     {
+        let page = page.as_array::<512>()?;
         if !is_whole(page, start, id) {
             return None;
         }
@@ -53,6 +53,7 @@ impl Entry {
     pub fn decode(page: &[u8], start: u32, id: u32, region: &Region) -> Option<Entry>
         ensures { result ≡ sound_entry start id region.now page.now }
     {
+        let page = page.as_array::<512>()?;
         if !is_whole(page, start, id) || !is_laid_out(page) {
             return None;
         }
@@ -64,8 +65,7 @@ impl Entry {
     }
 
     // The numbers that stand in an entry's places.
-    fn read(page: &[u8]) -> Entry
-        requires { length page.now ≡ 512 }
+    fn read(page: &[u8; 512]) -> Entry
         ensures { result ≡ entry_in page.now }
     {
         let mut slots = [0; 64];
@@ -106,8 +106,7 @@ fn joined(high: u16, low: u16) -> u32
 }
 
 // The words that an entry does not use are zero.
-fn is_laid_out(page: &[u8]) -> bool
-    requires { length page.now ≡ 512 }
+fn is_laid_out(page: &[u8; 512]) -> bool
     ensures { result ≡ entry_laid_out page.now }
 {
     zero_between(page, 3, 8) && zero_between(page, 40, 128)

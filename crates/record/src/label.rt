@@ -50,8 +50,7 @@ pub struct Label {
 
 impl Label {
     // Writes the label over the whole page.
-    pub fn encode(&self, start: u32, page: &mut [u8])
-        requires { length page.old ≡ 512 }
+    pub fn encode(&self, start: u32, page: &mut [u8; 512])
         ensures { page.new ≡ label_record start self.now }
     {
         clear(page);
@@ -62,8 +61,7 @@ impl Label {
     }
 
     // Writes the version and the label's numbers into words 6 to 10.
-    fn put_numbers(&self, page: &mut [u8])
-        requires { length page.old ≡ 512 }
+    fn put_numbers(&self, page: &mut [u8; 512])
         ensures bytes { page.new ≡ with_numbers self.now page.old }
         ensures fit { (self.now.records < 2 ^ 16) × ((self.now.entries < 2 ^ 16) × (self.now.trouble < 2 ^ 32)) }
     {
@@ -78,9 +76,7 @@ impl Label {
     pub fn decode(page: &[u8], start: u32, size: usize) -> Option<Label>
         ensures { result ≡ believed_label start size page.now }
     {
-        if page.len() != RECORD {
-            return None;
-        }
+        let page = page.as_array::<512>()?;
         if !is_whole(page, start, get_word(page, 0)) || !is_laid_out(page, size) {
             return None;
         }
@@ -95,23 +91,20 @@ impl Label {
 }
 
 // Writes the fixed text into its place.
-fn put_text(page: &mut [u8])
-    requires { length page.old ≡ 512 }
+fn put_text(page: &mut [u8; 512])
     ensures { page.new ≡ with_text page.old }
 {
     page[8..24].copy_from_slice(TEXT);
 }
 
-fn has_text(page: &[u8]) -> bool
-    requires { length page.now ≡ 512 }
+fn has_text(page: &[u8; 512]) -> bool
     ensures { result ≡ same (between 8 24 page.now) label_text }
 {
     &page[8..24] == TEXT.as_slice()
 }
 
 // The version, the numbers of records and of entries, and the state are right.
-fn has_right_numbers(page: &[u8], size: usize) -> bool
-    requires { length page.now ≡ 512 }
+fn has_right_numbers(page: &[u8; 512], size: usize) -> bool
     ensures { result ≡ label_numbers_right size page.now }
 {
     get_word(page, 6) == VERSION
@@ -121,8 +114,7 @@ fn has_right_numbers(page: &[u8], size: usize) -> bool
 }
 
 // The page is laid out as the label of a volume of `size` records.
-fn is_laid_out(page: &[u8], size: usize) -> bool
-    requires { length page.now ≡ 512 }
+fn is_laid_out(page: &[u8; 512], size: usize) -> bool
     ensures { result ≡ label_laid_out size page.now }
 {
     has_text(page) && has_right_numbers(page, size) && zero_between(page, 11, 128)

@@ -99,8 +99,7 @@ impl Section {
     }
 
     // The words that stand in the places of a section's bits.
-    fn read(page: &[u8]) -> Section
-        requires { length page.now ≡ 512 }
+    fn read(page: &[u8; 512]) -> Section
         ensures { result.bits ≡ drop 4 (words page.now) }
     {
         let mut bits = [0; WORDS];
@@ -111,9 +110,8 @@ impl Section {
     }
 
     // Words 2 and 3 of the page that the section was read from are right.
-    fn has_figures(&self, page: &[u8], span: &Span) -> bool
-        requires paged { length page.now ≡ 512 }
-        requires own { self.now.bits ≡ drop 4 (words page.now) }
+    fn has_figures(&self, page: &[u8; 512], span: &Span) -> bool
+        requires { self.now.bits ≡ drop 4 (words page.now) }
         ensures { result ≡ figures_right span.now page.now }
     {
         halves(get_word(page, 2)) == (span.first, WORDS as u32)
@@ -133,8 +131,7 @@ impl Section {
     }
 
     // Writes the section over the whole page.
-    pub fn encode(&self, start: u32, id: u32, span: &Span, page: &mut [u8])
-        requires paged { length page.old ≡ 512 }
+    pub fn encode(&self, start: u32, id: u32, span: &Span, page: &mut [u8; 512])
         requires first { span.now.first < 65536 }
         requires covered { span.now.covered < 65536 }
         ensures { page.new ≡ section_record start id span.now self.now.bits }
@@ -153,6 +150,7 @@ impl Section {
     pub fn decode(page: &[u8], start: u32, id: u32, span: &Span) -> Option<Section>
         ensures { result ≡ sound_section start id span.now page.now }
     {
+        let page = page.as_array::<512>()?;
         if !is_whole(page, start, id) {
             return None;
         }

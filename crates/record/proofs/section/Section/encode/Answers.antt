@@ -12,7 +12,7 @@ loop-k-init c =
     let s = c.args.span.now in
     let bits = c.args.self.now.bits in
     let b = c.joined-2.ensures ∙ ap (λ x. s.covered * 65536 + x) c.count.ensures in
-    (laid_none _ c.args.id _ _ _ _ _ _ _ _ bits c.requires.paged c.clear.ensures c.put_word.ensures c.put_word-2.ensures c.put_word-3.ensures c.joined.ensures b, tt)
+    (laid_none c.args.id _ _ _ _ _ _ _ _ bits c.clear.ensures c.put_word.ensures c.put_word-2.ensures c.put_word-3.ensures c.joined.ensures b, tt)
 
 pub loop-k-preserved : goal.loop-k-preserved
 loop-k-preserved c =

@@ -15,4 +15,4 @@ loop-k-preserved c =
 
 pub returns : goal.returns
 returns c =
-    words_read c.args.page.now c.loop-k.w-items c.requires c.loop-k-test.array_long (λ j h. c.loop-k.invariant j (omega arith))
+    words_read c.args.page.now c.loop-k.w-items (omega arith) c.loop-k-test.array_long (λ j h. c.loop-k.invariant j (omega arith))
