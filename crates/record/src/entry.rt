@@ -1,13 +1,14 @@
 // An entry: the meter number in word 2, and 64 slots of 16 bits in words 8 to 39.
-ghost use Rattle.std.specs.Prelude.{◌≡◌, ◌+◌, ◌*◌, length, ◌==◌};
+ghost use Rattle.std.specs.Prelude.{◌≡◌, ◌==◌};
 ghost use Rattle.record.specs.Entries.{free_entry, entry_record, entry_in, entry_laid_out, whole_entry, sound_entry, among, may_stand, addresses_sound};
 
 use crate::control::{is_whole, seal};
 use crate::region::Region;
-use crate::words::{clear, get_word, put_word, zero_between};
+use crate::words::{clear, get_word, joined, put_word, zero_between};
+use std::array;
 
 // A slot holds a page's address, or 0 for no page. A free entry has the meter number 0.
-#[derive(Clone, Copy)]
+#[derive(Clone, Copy, PartialEq, Eq, Debug)]
 pub struct Entry {
     pub meter: u32,
     pub slots: [u16; 64],
@@ -68,14 +69,10 @@ impl Entry {
     fn read(page: &[u8; 512]) -> Entry
         ensures { result ≡ entry_in page.now }
     {
-        let mut slots = [0; 64];
         let (halves, _) = page[32..160].as_chunks::<2>();
-        for (k, half) in halves.iter().enumerate() {
-            slots[k] = u16::from_be_bytes(*half);
-        }
         Entry {
             meter: get_word(page, 2),
-            slots,
+            slots: array::from_fn(|p| u16::from_be_bytes(halves[p])),
         }
     }
 
@@ -96,13 +93,6 @@ impl Entry {
     {
         self.meter == 0
     }
-}
-
-// Two slots as a word, the first in the high half.
-fn joined(high: u16, low: u16) -> u32
-    ensures { result ≡ high * 65536 + low }
-{
-    (u32::from(high) << 16) + u32::from(low)
 }
 
 // The words that an entry does not use are zero.

@@ -1,5 +1,5 @@
 // Words of a page: four bytes each, highest first.
-ghost use Rattle.std.specs.Prelude.{◌≡◌, ◌<◌, ◌≤◌, replicate};
+ghost use Rattle.std.specs.Prelude.{◌≡◌, ◌+◌, ◌*◌, ◌/◌, ◌%◌, ◌<◌, ◌≤◌, replicate};
 ghost use Rattle.std.specs.List.{between};
 ghost use Rattle.record.specs.Words.{word, put, words, zeros};
 
@@ -31,10 +31,19 @@ pub(crate) fn zero_between(page: &[u8; 512], from: usize, to: usize) -> bool
     requires { to ≤ 128 }
     ensures { result ≡ zeros (between from to (words page.now)) }
 {
-    for i in from..to {
-        if get_word(page, i) != 0 {
-            return false;
-        }
-    }
-    true
+    (from..to).all(|i| get_word(page, i) == 0)
+}
+
+// The word with these halves.
+pub(crate) fn joined(high: u16, low: u16) -> u32
+    ensures { result ≡ high * 65536 + low }
+{
+    (u32::from(high) << 16) + u32::from(low)
+}
+
+// The high and the low half of a word.
+pub(crate) fn halves(w: u32) -> (u32, u32)
+    ensures { result ≡ (w / 65536, w % 65536) }
+{
+    (w / 65536, w % 65536)
 }

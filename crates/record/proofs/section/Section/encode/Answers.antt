@@ -4,8 +4,8 @@ use Rattle.record.proofs.CountLaws.{free_le}
 use Rattle.record.proofs.SectionLaws.{laid_none, laid_more, laid_all}
 use Rattle.record.proofs.section.Section.encode.Goals as goal
 
-pub joined-requires-2 : goal.joined-requires-2
-joined-requires-2 c = let n = c.count.ensures in let le = free_le c.args.self.now.bits in (c.requires.covered, omega arith)
+pub overflow_cast-count : goal.overflow_cast-count
+overflow_cast-count c = let n = c.count.ensures in let le = free_le c.args.self.now.bits in omega arith
 
 pub loop-k-init : goal.loop-k-init
 loop-k-init c =
