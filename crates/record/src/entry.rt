@@ -80,12 +80,8 @@ impl Entry {
     pub fn has_sound_addresses(&self, region: &Region) -> bool
         ensures { result ≡ addresses_sound region.now self.now }
     {
-        for (p, a) in self.slots.iter().enumerate() {
-            if *a != 0 && !may_stand(self.meter, region, *a, &self.slots[p + 1..]) {
-                return false;
-            }
-        }
-        true
+        self.slots.iter().enumerate().all(|(p, a)| *a == 0
+            || may_stand(self.meter, region, *a, &self.slots[p + 1..]))
     }
 
     pub fn is_free(&self) -> bool

@@ -82,7 +82,7 @@ impl Section {
     pub fn lowest_free(&self, from: usize) -> Option<usize>
         ensures { result ≡ lowest_free self.now.bits from }
     {
-        (from..COVERED as usize).find(|r| self.is_free(*r))
+        (from..COVERED as usize).find(|&r| self.is_free(r))
     }
 
     // The words that stand in the places of a section's bits.
