@@ -1,6 +1,5 @@
-use Rattle.std.proofs.Common.{◌-◌, ◌/◌, ◌^◌, ◌<◌, ◌≤◌, bit_and, length, get_or, set, ap, ◌∙◌, arith, rules}
+use Rattle.std.proofs.Common.{◌-◌, ◌/◌, ◌^◌, ◌<◌, bit_and, get_or, set, ap, ◌∙◌, arith, rules}
 use Rattle.record.specs.Sections.{weight}
-use Rattle.record.proofs.BitLaws.{marked_past}
 use Rattle.record.proofs.DigitLaws.{and_clears}
 use Rattle.record.proofs.section.Section.take.Goals as goal
 
@@ -10,7 +9,3 @@ returns-then-r-lt-WORDS c =
     let h : weight c.args.r < 32 = omega arith in
     let fit : w < 2 ^ 32 = search rules in
     ap (set c.args.self.now.bits (c.args.r / 32)) (ap (λ m. bit_and w (4294967295 - m)) c.mask.ensures ∙ and_clears w (weight c.args.r) fit h)
-
-pub returns-else-r-lt-WORDS : goal.returns-else-r-lt-WORDS
-returns-else-r-lt-WORDS c =
-    let past : length c.args.self.now.bits ≤ c.args.r / 32 = omega arith in marked_past c.args.self.now.bits c.args.r 0 past
