@@ -1,8 +1,6 @@
 -- The addresses of an entry: the walk over the slots, and what their test says in plain words.
 use Rattle.std.proofs.Common.{◌≡◌, ℕ, zero, suc, ◌+◌, ◌-◌, ◌<◌, Bool, true, false, not, ◌&&◌, ◌||◌, eqb, List, [], ◌∷◌, length, get_or, take, drop, sym, refl, ap, ap₂, ◌∙◌, inl, inr, arith}
-use Rattle.std.specs.List.{IsAnyAnswer, list_all, enumerate_from}
-use Rattle.std.proofs.lemmas.List.Elements.{contains_decides}
-use Rattle.std.proofs.lemmas.Bool.Decides.{same_from_decides, Decides-by_or, Decides-eqb}
+use Rattle.std.specs.List.{list_all, enumerate_from}
 use Rattle.std.proofs.lemmas.Slice.{between_to_end}
 use Rattle.std.proofs.lemmas.List.{drop-drop}
 use Rattle.std.proofs.lemmas.Bool.{eq-eqb, ne_eqb, or_right, or_left, or_from, or_parts, or_cases, and_parts, and_from, eqb-true, eqb-false, not-true, cases_eq}
@@ -11,12 +9,6 @@ use Rattle.record.specs.declared.region.Region.{Region}
 use Rattle.record.specs.Regions.{within}
 use Rattle.record.specs.Entries.{among, may_stand, slots_sound}
 use Rattle.record.specs.Laws.{NamesEachPageOnce, SoundAddressesNameEachPageOnce}
-
--- what `contains` answers
-pub among_contains : (xs : List ℕ) (a : ℕ) (r : Bool) → IsAnyAnswer (λ y t. eqb y a ≡ t) xs r → r ≡ among a xs
-among_contains xs a r h =
-    same_from_decides r (among a xs) (contains_decides eqb Decides-eqb xs a r h)
-    (Decides-by_or (λ y. eqb y a) (λ y. y ≡ a) (among a) (λ y. Decides-eqb y a) refl (λ _ _. refl) xs)
 
 pub stands_when : (m : ℕ) (g : Region) (a : ℕ) (rest : List ℕ) (r : Bool) → (m ≡ 0 → ⊥) → within g a ≡ true → r ≡ among a rest → not r ≡ may_stand m g a rest
 stands_when m g a rest r h w e = rw (ne_eqb m 0 h, w) (ap not e)

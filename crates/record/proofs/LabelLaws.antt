@@ -6,7 +6,6 @@ use Rattle.std.proofs.lemmas.List.{drop_more, drop-drop, take-append-drop}
 use Rattle.std.proofs.lemmas.Bool.{and_from, and_parts, cond-true, eq-eqb, eqb-true, leb-true}
 use Rattle.drive.specs.Meaning.{RecordBytes}
 use Rattle.std.proofs.lemmas.Slice.Eq.{compares_Decides}
-use Rattle.std.proofs.lemmas.Bool.Decides.{same_from_decides}
 use Rattle.record.specs.declared.label.Label.{Label}
 use Rattle.record.specs.declared.label.LabelState.{LabelState}
 use Rattle.record.specs.declared.label.LabelState.TheVariants.{Closed, InUse, Salvage}
@@ -21,9 +20,6 @@ use Rattle.record.proofs.LayoutLaws.{all_zeros, zeros_to_end, some_parts}
 
 pub same_decides : (xs ys : List ℕ) → Decides (same xs ys) (xs ≡ ys)
 same_decides xs ys = compares_Decides same (search rules) xs ys
-
-pub same_when : (xs ys : List ℕ) (r : Bool) → Decides r (xs ≡ ys) → r ≡ same xs ys
-same_when xs ys r h = same_from_decides r (same xs ys) h (same_decides xs ys)
 
 -- ---- writing
 

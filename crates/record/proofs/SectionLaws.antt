@@ -2,7 +2,7 @@
 use Rattle.std.proofs.Common.{◌≡◌, ℕ, suc, ◌+◌, ◌-◌, ◌*◌, ◌/◌, ◌%◌, ◌^◌, ◌<◌, ◌≤◌, Bool, true, false, cond, ◌&&◌, eqb, List, [], ◌∷◌, ◌++◌, length, get_or, take, drop, set, replicate, Some, None, sym, refl, ap, ◌∙◌, subst, ap₂, arith}
 use Rattle.std.proofs.ByRecursion.{All-drop}
 use Rattle.std.proofs.lemmas.List.{append_assoc, append-nil, ext_get_or, get_or-drop, length-append, length-drop, length-replicate, length-take, length-take-le, set_at, take_all, take_more}
-use Rattle.std.proofs.lemmas.Bool.{and_from, and_left, and_parts, eq-eqb, eqb-true, cond-true}
+use Rattle.std.proofs.lemmas.Bool.{and_from, and_parts, eq-eqb, eqb-true, cond-true}
 use Rattle.std.proofs.lemmas.Bool.Decides.{same_from_decides, Decides-eqb}
 use Rattle.record.specs.declared.region.Span.{Span}
 use Rattle.record.specs.declared.section.Section.{Section}
@@ -91,9 +91,6 @@ halves_tell w v h l m q r ew el fit e a =
 
 pub both_right : (x y a b : Bool) → a ≡ x → b ≡ y → a ≡ true → b ≡ (x && y)
 both_right x y a b e f t = f ∙ ap (λ z. z && y) (sym t ∙ e)
-
-pub first_wrong : (x y a : Bool) → a ≡ x → a ≡ false → a ≡ (x && y)
-first_wrong x y a e f = f ∙ sym (and_left x y (sym e ∙ f))
 
 -- ---- what is written is read back
 

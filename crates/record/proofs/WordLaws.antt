@@ -1,12 +1,12 @@
 -- Laws of words and of a record's bytes.
-use Rattle.std.proofs.Common.{◌≡◌, ℕ, zero, suc, ◌+◌, ◌*◌, ◌/◌, ◌%◌, ◌^◌, ◌<◌, ◌≤◌, ◌&&◌, eqb, ◌≢◌, List, [], ◌∷◌, ◌++◌, length, get_or, take, drop, set, refl, subst, ap, ◌∙◌, ap₂, suc-add, div-add-mod', arith}
+use Rattle.std.proofs.Common.{◌≡◌, ℕ, zero, suc, ◌+◌, ◌*◌, ◌/◌, ◌%◌, ◌^◌, ◌<◌, ◌≤◌, ◌&&◌, eqb, List, [], ◌∷◌, ◌++◌, length, get_or, take, drop, set, refl, subst, ap, ◌∙◌, ap₂, suc-add, div-add-mod', arith}
 use native.Mathlib.Nat.{div-div-eq-div-mul}
 use Rattle.std.specs.List.{range_with_len, list_all, AllByRecursion}
 use Rattle.std.specs.Array.{IsFromFnResult, IsFromFnResultFrom}
 use Rattle.std.specs.Fn.{Called}
 use denote.Param.Members.{Mut}
 use Rattle.std.proofs.ByRecursion.{All-get_or}
-use Rattle.std.proofs.lemmas.List.{get_or-set_same, get_or-set_other, length-append, length-take, length-drop, drop_more}
+use Rattle.std.proofs.lemmas.List.{drop_more}
 use Rattle.record.specs.Words.{be, be_bytes, word, put, words, unwords, zeros}
 
 quad : (j : ℕ) → 4 * suc j ≡ suc (suc (suc (suc (4 * j))))
@@ -29,15 +29,6 @@ put_more a b c d p i w =
     let e : 4 * suc i + 4 ≡ suc (suc (suc (suc (4 * i + 4)))) = omega arith in
     ap₂ (λ n m. take n (a ∷ b ∷ c ∷ d ∷ p) ++ (be_bytes w ++ drop m (a ∷ b ∷ c ∷ d ∷ p))) (quad i) e
 
-pub words_put : (p : List ℕ) (i w : ℕ) → 4 * i + 4 ≤ length p → w < 2 ^ 32 → words (put p i w) ≡ set (words p) i w
-words_put [] i w h fit = absurd (omega arith)
-words_put (a ∷ []) i w h fit = absurd (omega arith)
-words_put (a ∷ b ∷ []) i w h fit = absurd (omega arith)
-words_put (a ∷ b ∷ c ∷ []) i w h fit = absurd (omega arith)
-words_put (a ∷ b ∷ c ∷ d ∷ p) zero w h fit = ap (λ x. x ∷ words p) (be_of_bytes w fit)
-words_put (a ∷ b ∷ c ∷ d ∷ p) (suc i) w h fit =
-    rw put_more (ap (λ x. be a b c d ∷ x) (words_put p i w (omega arith) fit))
-
 -- word i, by its bytes
 pub get_d_words : (p : List ℕ) (i : ℕ) → 4 * i + 4 ≤ length p → word p i ≡ be (get_or p (4 * i) 0) (get_or p (4 * i + 1) 0) (get_or p (4 * i + 2) 0) (get_or p (4 * i + 3) 0)
 get_d_words [] i h = absurd (omega arith)
@@ -53,18 +44,6 @@ length_words (a ∷ []) = refl
 length_words (a ∷ b ∷ []) = refl
 length_words (a ∷ b ∷ c ∷ []) = refl
 length_words (a ∷ b ∷ c ∷ d ∷ p) = omega (arith, length_words p)
-
-pub length_put : (p : List ℕ) (i w : ℕ) → 4 * i + 4 ≤ length p → length (put p i w) ≡ length p
-length_put p i w h = simp (length-append, length-take, length-drop) (omega arith)
-
--- the word that was put is read again, and any other word is as it was
-pub word_put_same : (p : List ℕ) (i w : ℕ) → 4 * i + 4 ≤ length p → w < 2 ^ 32 → word (put p i w) i ≡ w
-word_put_same p i w h fit =
-    let n = length_words p in
-    let long : i < length (words p) = omega arith in rw (words_put p i w h fit) (get_or-set_same (words p) i w 0 long)
-
-pub word_put_other : (p : List ℕ) (i j w : ℕ) → 4 * i + 4 ≤ length p → w < 2 ^ 32 → j ≢ i → word (put p i w) j ≡ word p j
-word_put_other p i j w h fit ne = rw (words_put p i w h fit) (get_or-set_other (words p) i j w 0 ne)
 
 -- words and bytes are each other's inverse
 pub words_unwords : (ws : List ℕ) → AllByRecursion (λ w. w < 2 ^ 32) ws → words (unwords ws) ≡ ws

@@ -1,6 +1,6 @@
 // An entry: the meter number in word 2, and 64 slots of 16 bits in words 8 to 39.
 ghost use Rattle.std.specs.Prelude.{◌≡◌, ◌==◌};
-ghost use Rattle.record.specs.Entries.{free_entry, entry_record, entry_in, entry_laid_out, whole_entry, sound_entry, among, may_stand, addresses_sound};
+ghost use Rattle.record.specs.Entries.{free_entry, entry_record, entry_in, entry_laid_out, whole_entry, sound_entry, may_stand, addresses_sound};
 
 use crate::control::{is_whole, seal};
 use crate::region::Region;
@@ -102,11 +102,5 @@ fn is_laid_out(page: &[u8; 512]) -> bool
 fn may_stand(meter: u32, region: &Region, a: u16, rest: &[u16]) -> bool
     ensures { result ≡ may_stand meter region.now a rest.now }
 {
-    meter != 0 && region.contains(u32::from(a)) && !is_among(a, rest)
-}
-
-fn is_among(a: u16, slots: &[u16]) -> bool
-    ensures { result ≡ among a slots.now }
-{
-    slots.contains(&a)
+    meter != 0 && region.contains(u32::from(a)) && !rest.contains(&a)
 }

@@ -7,8 +7,8 @@ pub(crate) fn get_word(page: &[u8; 512], i: usize) -> u32
     requires { i < 128 }
     ensures { result ≡ word page.now i }
 {
-    let at = 4 * i;
-    u32::from_be_bytes([page[at], page[at + 1], page[at + 2], page[at + 3]])
+    let (quads, _) = page.as_chunks::<4>();
+    u32::from_be_bytes(quads[i])
 }
 
 pub(crate) fn put_word(page: &mut [u8; 512], i: usize, w: u32)
