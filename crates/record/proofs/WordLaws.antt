@@ -66,7 +66,7 @@ unwords_words (a ∷ b ∷ c ∷ d ∷ p) h e =
     let e3 : be a b c d % 256 ≡ d = omega arith in
     cc (unwords_words p h.1.1.1.1 (omega arith))
 
--- the words i to j - 1, one by one
+-- the n words from i on, one by one
 pub zeros_at_each : (ws : List ℕ) (i n : ℕ) → ((k : ℕ) → k < n → i + k < length ws) → list_all (λ k. eqb (get_or ws k 0) 0) (range_with_len i n) ≡ zeros (take n (drop i ws))
 zeros_at_each ws i zero h = refl
 zeros_at_each ws i (suc n) h =
