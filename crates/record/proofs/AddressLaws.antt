@@ -1,46 +1,32 @@
 -- The addresses of an entry: the walk over the slots, and what their test says in plain words.
-use Rattle.std.proofs.Common.{◌≡◌, ℕ, zero, suc, ◌+◌, ◌-◌, ◌<◌, Bool, true, false, not, ◌&&◌, ◌||◌, eqb, List, [], ◌∷◌, length, get_or, take, drop, sym, refl, ap, ◌∙◌, inl, inr, arith}
-use Rattle.std.specs.List.{IsAnyAnswer}
-use Rattle.std.proofs.lemmas.List.Elements.{contains_decides}
-use Rattle.std.proofs.lemmas.Bool.Decides.{same_from_decides, Decides-by_or, Decides-eqb}
+use Rattle.std.proofs.Common.{◌≡◌, ℕ, zero, suc, ◌+◌, ◌-◌, ◌<◌, Bool, true, false, not, ◌&&◌, ◌||◌, eqb, List, [], ◌∷◌, length, get_or, take, drop, sym, refl, ap, ap₂, ◌∙◌, inl, inr, arith}
+use Rattle.std.specs.List.{list_all, enumerate_from}
 use Rattle.std.proofs.lemmas.Slice.{between_to_end}
-use Rattle.std.proofs.lemmas.List.{at_drop_more}
-use Rattle.std.proofs.lemmas.Bool.{eq-eqb, ne_eqb, or_right, or_left, or_from, or_parts, or_cases, and_left, and_parts, and_from, eqb-true, eqb-false, not-true, cases_eq}
+use Rattle.std.proofs.lemmas.List.{drop-drop}
+use Rattle.std.proofs.lemmas.Bool.{eq-eqb, ne_eqb, or_right, or_left, or_from, or_parts, or_cases, and_parts, and_from, eqb-true, eqb-false, not-true, cases_eq}
 use Rattle.record.specs.declared.entry.Entry.{Entry}
 use Rattle.record.specs.declared.region.Region.{Region}
 use Rattle.record.specs.Regions.{within}
 use Rattle.record.specs.Entries.{among, may_stand, slots_sound}
 use Rattle.record.specs.Laws.{NamesEachPageOnce, SoundAddressesNameEachPageOnce}
 
--- what `contains` answers
-pub among_contains : (xs : List ℕ) (a : ℕ) (r : Bool) → IsAnyAnswer (λ y t. eqb y a ≡ t) xs r → r ≡ among a xs
-among_contains xs a r h =
-    same_from_decides r (among a xs) (contains_decides eqb Decides-eqb xs a r h)
-    (Decides-by_or (λ y. eqb y a) (λ y. y ≡ a) (among a) (λ y. Decides-eqb y a) refl (λ _ _. refl) xs)
-
 pub stands_when : (m : ℕ) (g : Region) (a : ℕ) (rest : List ℕ) (r : Bool) → (m ≡ 0 → ⊥) → within g a ≡ true → r ≡ among a rest → not r ≡ may_stand m g a rest
 stands_when m g a rest r h w e = rw (ne_eqb m 0 h, w) (ap not e)
 
--- ---- the walk over the slots
+-- ---- the slots, one by one
 
-sound_more : (m : ℕ) (g : Region) (s : List ℕ) (p : ℕ) → p < length s
-    → slots_sound m g (drop p s) ≡ ((eqb (get_or s p 0) 0 || may_stand m g (get_or s p 0) (drop (p + 1) s)) && slots_sound m g (drop (p + 1) s))
-sound_more m g s p h = at_drop_more (slots_sound m g) s p 0 h
-
-pub sound_zero : (m : ℕ) (g : Region) (s : List ℕ) (p : ℕ) → p < length s → get_or s p 0 ≡ 0 → slots_sound m g (drop (p + 1) s) ≡ slots_sound m g (drop p s)
-sound_zero m g s p h z = sym (rw (eq-eqb (get_or s p 0) 0 z) at (sound_more m g s p h))
-
-pub sound_standing : (m : ℕ) (g : Region) (s : List ℕ) (p : ℕ) → p < length s → true ≡ may_stand m g (get_or s p 0) (drop (p + 1) s)
-    → slots_sound m g (drop (p + 1) s) ≡ slots_sound m g (drop p s)
-sound_standing m g s p h t =
-    sym (sound_more m g s p h ∙ ap (λ x. x && slots_sound m g (drop (p + 1) s)) (or_right (eqb (get_or s p 0) 0) _ (sym t)))
-
-pub sound_not : (m : ℕ) (g : Region) (s : List ℕ) (p : ℕ) → p < length s → (get_or s p 0 ≡ 0 → ⊥) → false ≡ may_stand m g (get_or s p 0) (drop (p + 1) s)
-    → false ≡ slots_sound m g (drop p s)
-sound_not m g s p h nz f = sym (sound_more m g s p h ∙ and_left _ _ (or_from (eqb (get_or s p 0) 0) _ (ne_eqb _ 0 nz) (sym f)))
-
-pub rest_of : (s : List ℕ) (p : ℕ) → length s ≡ 64 → take (64 - (p + 1)) (drop (p + 1) s) ≡ drop (p + 1) s
+rest_of : (s : List ℕ) (p : ℕ) → length s ≡ 64 → take (64 - (p + 1)) (drop (p + 1) s) ≡ drop (p + 1) s
 rest_of s p l = between_to_end s (p + 1) 64 (omega arith)
+
+-- the slot p of s is empty or holds an address that may stand before the slots after it
+abbrev pub stands_in : ℕ → Region → List ℕ → ℕ × ℕ → Bool
+stands_in m g s q = eqb q.1 0 || may_stand m g q.1 (take (64 - (q.0 + 1)) (drop (q.0 + 1) s))
+
+pub sound_at_each : (m : ℕ) (g : Region) (s : List ℕ) → length s ≡ 64 → (ys : List ℕ) (p : ℕ) → ys ≡ drop p s → list_all (stands_in m g s) (enumerate_from p ys) ≡ slots_sound m g ys
+sound_at_each m g s l [] p e = refl
+sound_at_each m g s l (a ∷ rest) p e =
+    let r : rest ≡ drop (p + 1) s = ap (drop 1) e ∙ drop-drop 1 p s in
+    ap₂ (λ x b. (eqb a 0 || may_stand m g a x) && b) (rest_of s p l ∙ sym r) (sound_at_each m g s l rest (p + 1) r)
 
 -- ---- the test and the plain words
 

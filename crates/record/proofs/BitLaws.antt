@@ -4,18 +4,15 @@ use Rattle.std.specs.List.{range_with_len}
 use Rattle.std.proofs.lemmas.Nat.{shr-shr, shr_split, mod_below, pow_pos}
 use Rattle.std.proofs.lemmas.List.FromFn.{length-map-range_with_len, get_or-map-range_with_len}
 use Rattle.std.proofs.ByRecursion.{All-get_or, All-from_get_or, All-set}
-use Rattle.std.proofs.lemmas.List.{ext_get_or, get_or_past, set_past, get_or-set_same, get_or-set_other, length-set, length-replicate, get_or-replicate}
+use Rattle.std.proofs.lemmas.List.{ext_get_or, get_or_past, get_or-set_same, get_or-set_other, length-set, length-replicate, get_or-replicate}
 use Rattle.std.proofs.lemmas.Bool.{eq-eqb, ne_eqb, eqb-true, eqb-false, cases_eq, cases_lt, lt-ltb, le-ltb}
 use Rattle.record.specs.Sections.{digit, with_digit, weight, bit, marked, packed, bits_of, none_free}
 use Rattle.record.specs.Laws.{FittingBits, AChangedBitChangesNoOther, BitsAreToldByTheFreeNumbers}
 use Rattle.record.proofs.DigitLaws.{digit_same, digit_other, same_digits, with_fits}
 
--- past the last word no bit is on, and none can be changed
+-- past the last word no bit is on
 pub bit_past : (bits : List ℕ) (r : ℕ) → length bits ≤ r / 32 → bit bits r ≡ false
 bit_past bits r h = rw (get_or_past bits (r / 32) 0 h) (ne_eqb (digit 0 (weight r)) 1 (λ e. omega arith))
-
-pub marked_past : (bits : List ℕ) (r b : ℕ) → length bits ≤ r / 32 → bits ≡ marked bits r b
-marked_past bits r b h = sym (set_past bits (r / 32) _ h)
 
 -- a change at another word, at the same word, and at the bit itself
 pub bit_marked : (bits : List ℕ) (r b j : ℕ) → r / 32 < length bits → b < 2 → bit (marked bits r b) j ≡ cond (eqb j r) (eqb b 1) (bit bits j)

@@ -54,10 +54,6 @@ sum_fits (w ∷ ws) i s h =
 abbrev pub Fit : List ℕ → Type 0
 Fit ws = AllByRecursion (λ w. w < 2 ^ 32) ws
 
--- the words of a control record
-pub control_words : ℕ → ℕ → List ℕ → List ℕ
-control_words start id body = id ∷ check start (id ∷ 0 ∷ body) ∷ body
-
 pub words_control : (start id : ℕ) (body : List ℕ) → start < 2 ^ 32 → id < 2 ^ 32 → Fit body
     → words (control start id body) ≡ id ∷ check start (id ∷ 0 ∷ body) ∷ body
 unfolding control

@@ -1,11 +1,11 @@
 -- The count of the free numbers, the lowest of them, and whether each may be free.
-use Rattle.std.proofs.Common.{◌≡◌, ℕ, zero, suc, ◌+◌, ◌-◌, ◌*◌, ◌/◌, ◌%◌, ◌^◌, ◌<◌, ◌≤◌, Bool, true, false, cond, not, ◌&&◌, ◌||◌, eqb, ◌⊎◌, List, ◌∷◌, ◌++◌, length, get_or, Some, None, Decides, sum_by, count_by, Option, sym, refl, ap, ◌∙◌, ap₂, inl, inr, add-zero, suc-add, zero-add, one-add, arith, MatchOption}
+use Rattle.std.proofs.Common.{◌≡◌, ℕ, zero, suc, ◌+◌, ◌-◌, ◌*◌, ◌/◌, ◌%◌, ◌^◌, ◌<◌, ◌≤◌, Bool, true, false, cond, not, ◌&&◌, ◌||◌, eqb, List, ◌∷◌, ◌++◌, length, get_or, Some, None, Decides, sum_by, count_by, Option, sym, refl, ap, ◌∙◌, ap₂, inl, inr, add-zero, suc-add, zero-add, one-add, arith, MatchOption}
 use lib.Count.{ones, ones_in, ones_cat}
-use Rattle.std.specs.List.{range_with_len}
+use Rattle.std.specs.List.{range_with_len, list_all, find}
 use Rattle.std.proofs.lemmas.Nat.{mod_below, pow_pos, shr_below, shr_split}
 use Rattle.std.proofs.lemmas.List.FromFn.{length-range_with_len}
 use Rattle.std.proofs.lemmas.List.Sums.{sum_by-cons, sum_by-append, count_by-le-length}
-use Rattle.std.proofs.lemmas.Bool.{eq-eqb, ne_eqb, cases_eq, or_left, or_right, or_from, and_left, and_from, and_parts, not_from_true, not_from_false, both_ways, cond-true, cond-false}
+use Rattle.std.proofs.lemmas.Bool.{eq-eqb, ne_eqb, cases_eq, and_from, and_parts, both_ways, cond-true, cond-false}
 use Rattle.record.specs.Regions.{within}
 use Rattle.record.specs.Sections.{digit, bit, marked, free_count, first_from, all_pass}
 use Rattle.record.specs.Laws.{AChangedBitMovesTheCountByOne, TheLowestFreeNumberIsLowest, EveryFreeBitLiesInTheRegion}
@@ -116,13 +116,10 @@ a_changed_bit_moves_the_count_by_one bits r h lt = (
 
 -- ---- the lowest
 
-pub first_more : (f : ℕ → Bool) (r n : ℕ) → r < n → first_from f r (n - r) ≡ cond (f r) (Some r) (first_from f (r + 1) (n - (r + 1)))
+pub first_found : (f : ℕ → Bool) (r n : ℕ) → find f (range_with_len r n) ≡ first_from f r n
 unfolding first_from
-first_more f r n h = let e : n - r ≡ suc (n - (r + 1)) = omega arith in rw e refl
-
-pub first_none : (f : ℕ → Bool) (r n : ℕ) → n ≤ r → first_from f r (n - r) ≡ None
-unfolding first_from
-first_none f r n h = let e : n - r ≡ 0 = omega arith in rw e refl
+first_found f r zero = refl
+first_found f r (suc n) = ap (cond (f r) (Some r)) (first_found f (r + 1) n)
 
 cases_like : (o : Option ℕ) (P P' : Type 0) (Q Q' : ℕ → Type 0) → (P → P') → ((k : ℕ) → Q k → Q' k) → MatchOption o P Q → MatchOption o P' Q'
 cases_like None P P' Q Q' f g h = f h
@@ -154,22 +151,10 @@ the_lowest_free_number_is_lowest bits r = lowest_from (bit bits) r 3968 (3968 - 
 
 -- ---- each number that is free may be free
 
-pass_more : (f g : ℕ → Bool) (r n : ℕ) → r < n → all_pass f g r (n - r) ≡ ((not (f r) || g r) && all_pass f g (r + 1) (n - (r + 1)))
+pub pass_at_each : (f g : ℕ → Bool) (r n : ℕ) → list_all (λ k. not (f k) || g k) (range_with_len r n) ≡ all_pass f g r n
 unfolding all_pass
-pass_more f g r n h = let e : n - r ≡ suc (n - (r + 1)) = omega arith in rw e refl
-
-pub pass_none : (f g : ℕ → Bool) (r n : ℕ) → n ≤ r → all_pass f g r (n - r) ≡ true
-unfolding all_pass
-pass_none f g r n h = let e : n - r ≡ 0 = omega arith in rw e refl
-
-pub pass_on : (f g : ℕ → Bool) (r n : ℕ) → r < n → (f r ≡ false) ⊎ (g r ≡ true) → all_pass f g (r + 1) (n - (r + 1)) ≡ all_pass f g r (n - r)
-pass_on f g r n h w =
-    let t : (not (f r) || g r) ≡ true = elim w [ inl e ↦ or_left (not (f r)) (g r) (not_from_false (f r) e) | inr e ↦ or_right (not (f r)) (g r) e ] in
-    sym (rw t at (pass_more f g r n h))
-
-pub pass_out : (f g : ℕ → Bool) (r n : ℕ) → r < n → f r ≡ true → g r ≡ false → false ≡ all_pass f g r (n - r)
-pass_out f g r n h e o =
-    sym (pass_more f g r n h ∙ and_left (not (f r) || g r) _ (or_from (not (f r)) (g r) (not_from_true (f r) e) o))
+pass_at_each f g r zero = refl
+pass_at_each f g r (suc n) = ap (λ b. (not (f r) || g r) && b) (pass_at_each f g (r + 1) n)
 
 implies : (x y : Bool) → (not x || y) ≡ true → x ≡ true → y ≡ true
 implies true y h e = h

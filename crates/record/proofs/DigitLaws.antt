@@ -1,11 +1,11 @@
 -- Digits of a word, and shifts and masks.
-use Rattle.std.proofs.Common.{◌≡◌, ℕ, zero, suc, ◌+◌, ◌-◌, ◌*◌, ◌/◌, ◌%◌, ◌^◌, ◌<◌, sym, ap, ◌∙◌, ap₂, inl, inr, mod-eq_of_lt, add-mul, one-add, arith}
+use Rattle.std.proofs.Common.{◌≡◌, ℕ, zero, suc, ◌+◌, ◌-◌, ◌*◌, ◌/◌, ◌%◌, ◌^◌, ◌<◌, not, eqb, sym, refl, ap, ◌∙◌, ap₂, inl, inr, mod-eq_of_lt, add-mul, one-add, arith}
 use native.Mathlib.Nat.{mod-mod}
 use lib.Arith.{digits_lt}
 use lib.Bits.{bit_and, bit_or, and_block, or_block, and_mask, and_zero_r, or_zero_r}
 use lib.Pow.{mod-mod-pow}
-use Rattle.std.proofs.lemmas.Nat.{shr_high, mod_low, shr-shr, shr_split, shr_below, field_of, pow_pos, pow-add, mod_below, one_shl, or_comm, shl_whole}
-use Rattle.std.proofs.lemmas.Bool.{cases_lt}
+use Rattle.std.proofs.lemmas.Nat.{shr_high, mod_low, shr-shr, shr_split, shr_below, field_of, pow_pos, pow-add, mod_below}
+use Rattle.std.proofs.lemmas.Bool.{cases_lt, eq-eqb, ne_eqb}
 use Rattle.record.specs.Sections.{digit, with_digit}
 
 low_lt : (w k : ℕ) → w % 2 ^ k < 2 ^ k
@@ -95,7 +95,7 @@ high_lt w k fit h =
     rw (shr-shr w k 1) (shr_below w (31 - k) (k + 1) (rw s fit))
 
 -- `w & !(1 << k)`
-and_clears : (w k : ℕ) → w < 2 ^ 32 → k < 32 → bit_and w (2 ^ 32 - 1 - 2 ^ k) ≡ with_digit w k 0
+pub and_clears : (w k : ℕ) → w < 2 ^ 32 → k < 32 → bit_and w (2 ^ 32 - 1 - 2 ^ k) ≡ with_digit w k 0
 and_clears w k fit h =
     let q = w / 2 ^ k / 2 in
     let d = digit w k in
@@ -110,26 +110,41 @@ and_clears w k fit h =
     ap₂ bit_and (sym (with_own w k)) (mask_parts k h)
     ∙ (and_block k (q * 2 + d) (y * 2 + 0) t (2 ^ k - 1) (low_lt w k) (omega arith) ∙ ap₂ (λ m n. m * 2 ^ k + n) z c)
 
--- `w | b << k`, where that digit of w is 0
-or_digit : (w k b : ℕ) → b < 2 → bit_or (with_digit w k 0) (b * 2 ^ k) ≡ with_digit w k b
-or_digit w k b h =
-    let q = w / 2 ^ k / 2 in
-    let t = w % 2 ^ k in
-    let z : 0 < 2 = omega arith in
-    let e : 0 * 2 + b ≡ b = omega arith in
-    let a : bit_or (q * 2 + 0) (0 * 2 + b) ≡ bit_or q 0 * 2 + bit_or 0 b = or_block 1 q 0 0 b z h in
-    let d : bit_or (q * 2 + 0) b ≡ q * 2 + b = ap (bit_or (q * 2 + 0)) (sym e) ∙ (a ∙ ap₂ (λ m n. m * 2 + n) (or_zero_r q) (or_comm 0 b ∙ or_zero_r b)) in
-    let p : b * 2 ^ k ≡ b * 2 ^ k + 0 = omega arith in
-    ap (bit_or (with_digit w k 0)) p
-    ∙ (or_block k (q * 2 + 0) b t 0 (low_lt w k) (pow_pos k) ∙ ap₂ (λ m n. m * 2 ^ k + n) d (or_zero_r t))
+or_one : (d : ℕ) → d < 2 → bit_or d 1 ≡ 1
+or_one zero h = refl
+or_one (suc zero) h = refl
+or_one (suc (suc d)) h = absurd (omega arith)
 
--- `w & !(1 << k) | b << k`
-pub digit_put : (w k b : ℕ) → w < 2 ^ 32 → k < 32 → b < 2
-    → bit_or (bit_and w (4294967295 - (1 * 2 ^ k) % 2 ^ 32)) ((b * 2 ^ k) % 2 ^ 32) ≡ with_digit w k b
-digit_put w k b fit h hb =
-    let one : b < 2 ^ 1 = hb in
-    ap₂ (λ x y. bit_or (bit_and w (4294967295 - x)) y) (one_shl k 32 h) (shl_whole b 1 k 32 one (omega arith))
-    ∙ (ap (λ x. bit_or x (b * 2 ^ k)) (and_clears w k fit h) ∙ or_digit w k b hb)
+-- `w | 1 << k`
+pub or_sets : (w k : ℕ) → bit_or w (2 ^ k) ≡ with_digit w k 1
+or_sets w k =
+    let q = w / 2 ^ k / 2 in
+    let d = digit w k in
+    let t = w % 2 ^ k in
+    let hd : d < 2 = omega arith in
+    let a : bit_or (q * 2 + d) (0 * 2 + 1) ≡ bit_or q 0 * 2 + bit_or d 1 = or_block 1 q 0 d 1 hd (omega arith) in
+    let b : bit_or (q * 2 + d) (0 * 2 + 1) ≡ q * 2 + 1 = a ∙ ap₂ (λ m n. m * 2 + n) (or_zero_r q) (or_one d hd) in
+    let p : 2 ^ k ≡ (0 * 2 + 1) * 2 ^ k + 0 = omega arith in
+    ap₂ bit_or (sym (with_own w k)) p
+    ∙ (or_block k (q * 2 + d) (0 * 2 + 1) t 0 (low_lt w k) (pow_pos k) ∙ ap₂ (λ m n. m * 2 ^ k + n) b (or_zero_r t))
+
+-- `w & 1 << k`
+and_keeps : (w k : ℕ) → bit_and w (2 ^ k) ≡ digit w k * 2 ^ k
+and_keeps w k =
+    let a = w / 2 ^ k in
+    let t = w % 2 ^ k in
+    let p : 2 ^ k ≡ 1 * 2 ^ k + 0 = omega arith in
+    let z : (a % 2) * 2 ^ k + 0 ≡ (a % 2) * 2 ^ k = omega arith in
+    ap₂ bit_and (sym (shr_split w k)) p
+    ∙ (and_block k a 1 t 0 (low_lt w k) (pow_pos k) ∙ (ap₂ (λ m n. m * 2 ^ k + n) (and_one a) (and_zero_r t) ∙ z))
+
+pub and_tells : (w k : ℕ) → not (eqb (bit_and w (2 ^ k)) 0) ≡ eqb (digit w k) 1
+and_tells w k = rw (and_keeps w k) (told (digit w k) (2 ^ k) (omega arith) (pow_pos k))
+  where
+    told : (d p : ℕ) → d < 2 → 0 < p → not (eqb (d * p) 0) ≡ eqb d 1
+    told zero p hd hp = ap not (eq-eqb (0 * p) 0 (omega arith))
+    told (suc zero) p hd hp = ap not (ne_eqb (1 * p) 0 (λ e. omega arith))
+    told (suc (suc d)) p hd hp = absurd (omega arith)
 
 pub with_fits : (w k b : ℕ) → w < 2 ^ 32 → k < 32 → b < 2 → with_digit w k b < 2 ^ 32
 with_fits w k b fit h hb =

@@ -1,9 +1,9 @@
 -- The layout of an entry, step by step, and its laws.
-use Rattle.std.proofs.Common.{◌≡◌, ℕ, suc, ◌+◌, ◌*◌, ◌/◌, ◌%◌, ◌^◌, ◌<◌, ◌≤◌, true, ◌&&◌, List, [], ◌∷◌, ◌++◌, map, length, get_or, take, drop, set, replicate, Some, sym, refl, ap, ◌∙◌, subst, ap₂, arith}
+use Rattle.std.proofs.Common.{◌≡◌, ℕ, suc, ◌+◌, ◌*◌, ◌/◌, ◌%◌, ◌^◌, ◌<◌, ◌≤◌, true, ◌&&◌, List, [], ◌∷◌, ◌++◌, map, length, get_or, take, drop, replicate, Some, sym, refl, ap, ◌∙◌, subst, ap₂, arith}
 use Rattle.std.specs.Simd.{first_chunks}
 use Rattle.std.specs.List.{between, AllByRecursion}
 use lib.Seq.{paste}
-use Rattle.std.proofs.lemmas.List.{take_all, take_at, take_more, take_more_set, take-append-drop, drop_at, drop_more, drop-drop, length-take, length-drop, length-append, get_or-map}
+use Rattle.std.proofs.lemmas.List.{take_all, take_at, take-append-drop, drop_at, drop_more, drop-drop, length-take, length-drop, length-append, get_or-map}
 use Rattle.std.proofs.ByRecursion.{All-append, All-from_get_or, All-get_or, All-take, All-drop}
 use Rattle.std.proofs.lemmas.List.Edits.{paste_more, length-paste, length-between}
 use Rattle.std.proofs.lemmas.Bool.{and_from, and_parts, cond-true}
@@ -31,9 +31,8 @@ head_put : (id m : ℕ) → put (put (replicate 512 0) 0 id) 2 m ≡ unwords (he
 unfolding head_words
 head_put id m = refl
 
-pub head_start : (p q r : List ℕ) (n id m : ℕ) → n ≡ 512 → p ≡ replicate n 0 → q ≡ put p 0 id → r ≡ put q 2 m → r ≡ unwords (head_words id m)
-head_start p q r n id m l e f g =
-    g ∙ (ap (λ x. put x 2 m) (f ∙ ap (λ x. put x 0 id) (e ∙ ap (λ x. replicate x 0) l)) ∙ head_put id m)
+pub head_start : (p q r : List ℕ) (id m : ℕ) → p ≡ replicate 512 0 → q ≡ put p 0 id → r ≡ put q 2 m → r ≡ unwords (head_words id m)
+head_start p q r id m e f g = g ∙ (ap (λ x. put x 2 m) (f ∙ ap (λ x. put x 0 id) e) ∙ head_put id m)
 
 pub length_pack : (hs : List ℕ) → length (pack hs) ≡ length hs / 2
 length_pack [] = refl
@@ -125,13 +124,6 @@ pub length_slots : (p : List ℕ) → length p ≡ 512 → length (unpack (betwe
 length_slots p l =
     let n = length_words p in
     let m : length (between 8 40 (words p)) ≡ 32 = length-between (words p) 8 40 (omega arith) in omega (arith, length_unpack (between 8 40 (words p)))
-
--- one turn of a loop that copies ys over xs, and its end
-pub copied_more : (xs ys : List ℕ) (k v : ℕ) → k < length xs → k < length ys → take k xs ≡ take k ys → v ≡ get_or ys k 0 → take (k + 1) (set xs k v) ≡ take (k + 1) ys
-copied_more xs ys k v hx hy e f = take_more_set xs k v hx ∙ (ap₂ (λ x y. x ++ y ∷ []) e f ∙ sym (take_more ys k 0 hy))
-
-pub copied_all : (xs ys : List ℕ) (k : ℕ) → length xs ≤ k → length ys ≤ k → take k xs ≡ take k ys → xs ≡ ys
-copied_all xs ys k hx hy e = sym (take_all k xs hx) ∙ (e ∙ take_all k ys hy)
 
 -- ---- what is written is read back
 

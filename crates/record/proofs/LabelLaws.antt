@@ -6,7 +6,6 @@ use Rattle.std.proofs.lemmas.List.{drop_more, drop-drop, take-append-drop}
 use Rattle.std.proofs.lemmas.Bool.{and_from, and_parts, cond-true, eq-eqb, eqb-true, leb-true}
 use Rattle.drive.specs.Meaning.{RecordBytes}
 use Rattle.std.proofs.lemmas.Slice.Eq.{compares_Decides}
-use Rattle.std.proofs.lemmas.Bool.Decides.{same_from_decides}
 use Rattle.record.specs.declared.label.Label.{Label}
 use Rattle.record.specs.declared.label.LabelState.{LabelState}
 use Rattle.record.specs.declared.label.LabelState.TheVariants.{Closed, InUse, Salvage}
@@ -22,17 +21,14 @@ use Rattle.record.proofs.LayoutLaws.{all_zeros, zeros_to_end, some_parts}
 pub same_decides : (xs ys : List ℕ) → Decides (same xs ys) (xs ≡ ys)
 same_decides xs ys = compares_Decides same (search rules) xs ys
 
-pub same_when : (xs ys : List ℕ) (r : Bool) → Decides r (xs ≡ ys) → r ≡ same xs ys
-same_when xs ys r h = same_from_decides r (same xs ys) h (same_decides xs ys)
-
 -- ---- writing
 
 -- the pages that `encode` goes through, from the cleared one on
-pub label_steps : (l : Label) (n : ℕ) (p q r s : List ℕ) → n ≡ 512 → p ≡ replicate n 0 → q ≡ put p 0 l.id → r ≡ with_text q → s ≡ with_numbers l r
+pub label_steps : (l : Label) (p q r s : List ℕ) → p ≡ replicate 512 0 → q ≡ put p 0 l.id → r ≡ with_text q → s ≡ with_numbers l r
     → s ≡ unwords (l.id ∷ 0 ∷ label_body l)
 unfolding label_body
-label_steps l n p q r s len ep eq er es =
-    let z : q ≡ put (replicate 512 0) 0 l.id = eq ∙ ap (λ x. put x 0 l.id) (ep ∙ ap (λ k. replicate k 0) len) in
+label_steps l p q r s ep eq er es =
+    let z : q ≡ put (replicate 512 0) 0 l.id = eq ∙ ap (λ x. put x 0 l.id) ep in
     es ∙ ap (with_numbers l) (er ∙ ap with_text z)
 
 state_fits : (s : LabelState) → state_number s < 2 ^ 32
@@ -153,13 +149,24 @@ body_is t p l h =
     sym (take-append-drop 4 (drop 2 ws))
     ∙ ap₂ (λ a b. a ++ b) x (drop-drop 4 2 ws ∙ (y ∙ ap (λ r. 1 ∷ word p 7 ∷ word p 8 ∷ state_number (numbered_state (word p 9)) ∷ word p 10 ∷ r) z))
 
--- the number of entries in the limits fits its place
-entries_fit : (id e t : ℕ) → in_limits id e t ≡ true → e < 2 ^ 16
-entries_fit id e t h =
+-- numbers of entries and of records in the limits fit their places
+counts_fit : (id e t : ℕ) → in_limits id e t ≡ true → (e < 2 ^ 16) × (t < 2 ^ 16)
+counts_fit id e t h =
     let a = and_parts (not (eqb id 0)) _ h in
     let b = and_parts (leb 1 e) _ a.1 in
     let c = and_parts (leb e 3968) (leb (e + 9) t && leb t 11904) b.1 in
-    let m : e ≤ 3968 = leb-true e 3968 c.0 in omega arith
+    let d = and_parts (leb (e + 9) t) (leb t 11904) c.1 in
+    let m : e ≤ 3968 = leb-true e 3968 c.0 in
+    let n : t ≤ 11904 = leb-true t 11904 d.1 in
+    (omega arith, omega arith)
+
+-- the numbers of records and of entries in a label that is laid out
+pub laid_fits : (t : ℕ) (p : List ℕ) → label_laid_out t p ≡ true → (word p 7 < 2 ^ 16) × (word p 8 < 2 ^ 16)
+laid_fits t p h =
+    let o = laid_parts t p h in
+    let f = counts_fit (word p 0) (word p 8) t o.limits in
+    let r = o.records in
+    (omega arith, f.0)
 
 read_fits : (t : ℕ) (p : List ℕ) → RecordBytes p → t < 2 ^ 16 → Laid t p → FittingLabel (label_in p)
 read_fits t p h ht o =
@@ -169,7 +176,7 @@ read_fits t p h ht o =
     record {
       id = All-get_or (λ w. w < 2 ^ 32) (words p) 0 0 (omega arith) fit;
       records = rw o.records ht;
-      entries = entries_fit (word p 0) (word p 8) t o.limits;
+      entries = (counts_fit (word p 0) (word p 8) t o.limits).0;
       trouble = All-get_or (λ w. w < 2 ^ 32) (words p) 10 0 (omega arith) fit;
     }
 

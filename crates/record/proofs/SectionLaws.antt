@@ -2,7 +2,7 @@
 use Rattle.std.proofs.Common.{◌≡◌, ℕ, suc, ◌+◌, ◌-◌, ◌*◌, ◌/◌, ◌%◌, ◌^◌, ◌<◌, ◌≤◌, Bool, true, false, cond, ◌&&◌, eqb, List, [], ◌∷◌, ◌++◌, length, get_or, take, drop, set, replicate, Some, None, sym, refl, ap, ◌∙◌, subst, ap₂, arith}
 use Rattle.std.proofs.ByRecursion.{All-drop}
 use Rattle.std.proofs.lemmas.List.{append_assoc, append-nil, ext_get_or, get_or-drop, length-append, length-drop, length-replicate, length-take, length-take-le, set_at, take_all, take_more}
-use Rattle.std.proofs.lemmas.Bool.{and_from, and_left, and_parts, eq-eqb, eqb-true, cond-true}
+use Rattle.std.proofs.lemmas.Bool.{and_from, and_parts, eq-eqb, eqb-true, cond-true}
 use Rattle.std.proofs.lemmas.Bool.Decides.{same_from_decides, Decides-eqb}
 use Rattle.record.specs.declared.region.Span.{Span}
 use Rattle.record.specs.declared.section.Section.{Section}
@@ -20,12 +20,11 @@ use Rattle.record.proofs.CountLaws.{free_le}
 unfoldable pub laid : ℕ → ℕ → ℕ → ℕ → List ℕ → List ℕ
 laid id first free k bits = id ∷ 0 ∷ first ∷ free ∷ (take k bits ++ replicate (124 - k) 0)
 
-pub laid_none : (n id a b first free : ℕ) (p0 p1 p2 p3 bits : List ℕ) → n ≡ 512 → p0 ≡ replicate n 0 → p1 ≡ put p0 0 id → p2 ≡ put p1 2 a → p3 ≡ put p2 3 b
+pub laid_none : (id a b first free : ℕ) (p0 p1 p2 p3 bits : List ℕ) → p0 ≡ replicate 512 0 → p1 ≡ put p0 0 id → p2 ≡ put p1 2 a → p3 ≡ put p2 3 b
     → a ≡ first → b ≡ free → p3 ≡ unwords (laid id first free 0 bits)
 unfolding laid
-laid_none n id a b first free p0 p1 p2 p3 bits en e0 e1 e2 e3 ea eb =
-    let f0 : p0 ≡ replicate 512 0 = e0 ∙ ap (λ k. replicate k 0) en in
-    let f1 : p1 ≡ put (replicate 512 0) 0 id = e1 ∙ ap (λ p. put p 0 id) f0 in
+laid_none id a b first free p0 p1 p2 p3 bits e0 e1 e2 e3 ea eb =
+    let f1 : p1 ≡ put (replicate 512 0) 0 id = e1 ∙ ap (λ p. put p 0 id) e0 in
     let f2 : p2 ≡ put (put (replicate 512 0) 0 id) 2 first = e2 ∙ ap₂ (λ p w. put p 2 w) f1 ea in
     e3 ∙ ap₂ (λ p w. put p 3 w) f2 eb
 
@@ -92,9 +91,6 @@ halves_tell w v h l m q r ew el fit e a =
 
 pub both_right : (x y a b : Bool) → a ≡ x → b ≡ y → a ≡ true → b ≡ (x && y)
 both_right x y a b e f t = f ∙ ap (λ z. z && y) (sym t ∙ e)
-
-pub first_wrong : (x y a : Bool) → a ≡ x → a ≡ false → a ≡ (x && y)
-first_wrong x y a e f = f ∙ sym (and_left x y (sym e ∙ f))
 
 -- ---- what is written is read back
 

@@ -17,6 +17,12 @@ state_number Salvage = 2
 abbrev pub numbered_state : ℕ → LabelState
 numbered_state n = cond (n == 0) Closed (cond (n == 1) InUse Salvage)
 
+-- what a state is called
+abbrev pub state_name : LabelState → List ℕ
+state_name Closed = codes "closed"
+state_name InUse = codes "in use"
+state_name Salvage = codes "salvage begun"
+
 -- the 16 bytes in words 2 to 5
 abbrev pub label_text : List ℕ
 label_text = codes "METER READ STORE"

@@ -25,8 +25,7 @@ pub fn check_word(page: &[u8], start: u32) -> u32
 }
 
 // Writes the check word.
-pub(crate) fn seal(page: &mut [u8], start: u32)
-    requires { 8 ≤ length page.old }
+pub(crate) fn seal(page: &mut [u8; 512], start: u32)
     ensures { page.new ≡ put page.old 1 (check start (words page.old)) }
 {
     let sum = check_word(page, start);
@@ -34,10 +33,8 @@ pub(crate) fn seal(page: &mut [u8], start: u32)
 }
 
 // The page is a record with this id and the right check word.
-pub(crate) fn is_whole(page: &[u8], start: u32, id: u32) -> bool
+pub(crate) fn is_whole(page: &[u8; 512], start: u32, id: u32) -> bool
     ensures { result ≡ whole start id page.now }
 {
-    page.len() == RECORD
-        && get_word(page, 0) == id
-        && get_word(page, CHECK) == check_word(page, start)
+    get_word(page, 0) == id && get_word(page, CHECK) == check_word(page, start)
 }

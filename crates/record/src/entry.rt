@@ -1,13 +1,14 @@
 // An entry: the meter number in word 2, and 64 slots of 16 bits in words 8 to 39.
-ghost use Rattle.std.specs.Prelude.{◌≡◌, ◌+◌, ◌*◌, length, ◌==◌};
-ghost use Rattle.record.specs.Entries.{free_entry, entry_record, entry_in, entry_laid_out, whole_entry, sound_entry, among, may_stand, addresses_sound};
+ghost use Rattle.std.specs.Prelude.{◌≡◌, ◌==◌};
+ghost use Rattle.record.specs.Entries.{free_entry, entry_record, entry_in, entry_laid_out, whole_entry, sound_entry, may_stand, addresses_sound};
 
 use crate::control::{is_whole, seal};
 use crate::region::Region;
-use crate::words::{clear, get_word, put_word, zero_between};
+use crate::words::{clear, get_word, joined, put_word, zero_between};
+use std::array;
 
 // A slot holds a page's address, or 0 for no page. A free entry has the meter number 0.
-#[derive(Clone, Copy)]
+#[derive(Clone, Copy, PartialEq, Eq, Debug)]
 pub struct Entry {
     pub meter: u32,
     pub slots: [u16; 64],
@@ -25,8 +26,7 @@ impl Entry {
     }
 
     // Writes the entry over the whole page.
-    pub fn encode(&self, start: u32, id: u32, page: &mut [u8])
-        requires { length page.old ≡ 512 }
+    pub fn encode(&self, start: u32, id: u32, page: &mut [u8; 512])
         ensures { page.new ≡ entry_record start id self.now }
     {
         clear(page);
@@ -43,6 +43,7 @@ impl Entry {
     pub fn decode_whole(page: &[u8], start: u32, id: u32) -> Option<Entry>
         ensures { result ≡ whole_entry start id page.now }
     {
+        let page = page.as_array::<512>()?;
         if !is_whole(page, start, id) {
             return None;
         }
@@ -53,6 +54,7 @@ impl Entry {
     pub fn decode(page: &[u8], start: u32, id: u32, region: &Region) -> Option<Entry>
         ensures { result ≡ sound_entry start id region.now page.now }
     {
+        let page = page.as_array::<512>()?;
         if !is_whole(page, start, id) || !is_laid_out(page) {
             return None;
         }
@@ -64,18 +66,13 @@ impl Entry {
     }
 
     // The numbers that stand in an entry's places.
-    fn read(page: &[u8]) -> Entry
-        requires { length page.now ≡ 512 }
+    fn read(page: &[u8; 512]) -> Entry
         ensures { result ≡ entry_in page.now }
     {
-        let mut slots = [0; 64];
         let (halves, _) = page[32..160].as_chunks::<2>();
-        for (k, half) in halves.iter().enumerate() {
-            slots[k] = u16::from_be_bytes(*half);
-        }
         Entry {
             meter: get_word(page, 2),
-            slots,
+            slots: array::from_fn(|p| u16::from_be_bytes(halves[p])),
         }
     }
 
@@ -83,12 +80,8 @@ impl Entry {
     pub fn has_sound_addresses(&self, region: &Region) -> bool
         ensures { result ≡ addresses_sound region.now self.now }
     {
-        for (p, a) in self.slots.iter().enumerate() {
-            if *a != 0 && !may_stand(self.meter, region, *a, &self.slots[p + 1..]) {
-                return false;
-            }
-        }
-        true
+        self.slots.iter().enumerate().all(|(p, a)| *a == 0
+            || may_stand(self.meter, region, *a, &self.slots[p + 1..]))
     }
 
     pub fn is_free(&self) -> bool
@@ -98,16 +91,8 @@ impl Entry {
     }
 }
 
-// Two slots as a word, the first in the high half.
-fn joined(high: u16, low: u16) -> u32
-    ensures { result ≡ high * 65536 + low }
-{
-    (u32::from(high) << 16) + u32::from(low)
-}
-
 // The words that an entry does not use are zero.
-fn is_laid_out(page: &[u8]) -> bool
-    requires { length page.now ≡ 512 }
+fn is_laid_out(page: &[u8; 512]) -> bool
     ensures { result ≡ entry_laid_out page.now }
 {
     zero_between(page, 3, 8) && zero_between(page, 40, 128)
@@ -117,11 +102,5 @@ fn is_laid_out(page: &[u8]) -> bool
 fn may_stand(meter: u32, region: &Region, a: u16, rest: &[u16]) -> bool
     ensures { result ≡ may_stand meter region.now a rest.now }
 {
-    meter != 0 && region.contains(u32::from(a)) && !is_among(a, rest)
-}
-
-fn is_among(a: u16, slots: &[u16]) -> bool
-    ensures { result ≡ among a slots.now }
-{
-    slots.contains(&a)
+    meter != 0 && region.contains(u32::from(a)) && !rest.contains(&a)
 }

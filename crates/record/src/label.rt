@@ -1,12 +1,13 @@
 // A label: what a volume is, and in which state it was left.
-ghost use Rattle.std.specs.Prelude.{◌≡◌, ◌^◌, ◌<◌, length};
+ghost use Rattle.std.specs.Prelude.{◌≡◌, ◌^◌, ◌<◌, Some};
 ghost use Rattle.std.specs.List.{between};
 ghost use Rattle.record.specs.Words.{same};
-ghost use Rattle.record.specs.Labels.{state_number, numbered_state, label_text, with_text, with_numbers, label_record, label_numbers_right, label_laid_out, believed_label};
+ghost use Rattle.record.specs.Labels.{state_number, numbered_state, state_name, label_text, with_text, with_numbers, label_record, label_numbers_right, label_laid_out, believed_label};
 
-use crate::control::{RECORD, is_whole, seal};
+use crate::control::{is_whole, seal};
 use crate::region::in_limits;
 use crate::words::{clear, get_word, put_word, zero_between};
+use std::fmt;
 
 // The fixed text of a label, in words 2 to 5.
 const TEXT: &[u8; 16] = b"METER READ STORE";
@@ -20,22 +21,36 @@ pub enum LabelState {
     Salvage = 2,
 }
 
-impl LabelState {
-    pub fn number(self) -> u32
-        ensures { result ≡ state_number self }
-    {
-        self as u32
-    }
+impl From<LabelState> for u32 {
+    ghost from_gives = { λ state n. n ≡ state_number state };
 
-    // The state with this number; any number above 1 counts as 2.
-    fn numbered(n: u32) -> LabelState
-        ensures { result ≡ numbered_state n }
-    {
+    fn from(state: LabelState) -> u32 {
+        state as u32
+    }
+}
+
+// The state with this number; any number above 1 counts as 2.
+impl From<u32> for LabelState {
+    ghost from_gives = { λ n state. state ≡ numbered_state n };
+
+    fn from(n: u32) -> LabelState {
         match n {
             0 => LabelState::Closed,
             1 => LabelState::InUse,
             _ => LabelState::Salvage,
         }
+    }
+}
+
+impl fmt::Display for LabelState {
+    ghost output = { λ state. Some (state_name state) };
+
+    fn fmt<W: fmt::Write>(&self, f: &mut fmt::Formatter<W>) -> fmt::Result {
+        f.write_str(match self {
+            LabelState::Closed => "closed",
+            LabelState::InUse => "in use",
+            LabelState::Salvage => "salvage begun",
+        })
     }
 }
 
@@ -50,8 +65,7 @@ pub struct Label {
 
 impl Label {
     // Writes the label over the whole page.
-    pub fn encode(&self, start: u32, page: &mut [u8])
-        requires { length page.old ≡ 512 }
+    pub fn encode(&self, start: u32, page: &mut [u8; 512])
         ensures { page.new ≡ label_record start self.now }
     {
         clear(page);
@@ -62,15 +76,14 @@ impl Label {
     }
 
     // Writes the version and the label's numbers into words 6 to 10.
-    fn put_numbers(&self, page: &mut [u8])
-        requires { length page.old ≡ 512 }
+    fn put_numbers(&self, page: &mut [u8; 512])
         ensures bytes { page.new ≡ with_numbers self.now page.old }
         ensures fit { (self.now.records < 2 ^ 16) × ((self.now.entries < 2 ^ 16) × (self.now.trouble < 2 ^ 32)) }
     {
         put_word(page, 6, VERSION);
         put_word(page, 7, u32::from(self.records));
         put_word(page, 8, u32::from(self.entries));
-        put_word(page, 9, self.state.number());
+        put_word(page, 9, u32::from(self.state));
         put_word(page, 10, self.trouble);
     }
 
@@ -78,9 +91,7 @@ impl Label {
     pub fn decode(page: &[u8], start: u32, size: usize) -> Option<Label>
         ensures { result ≡ believed_label start size page.now }
     {
-        if page.len() != RECORD {
-            return None;
-        }
+        let page = page.as_array::<512>()?;
         if !is_whole(page, start, get_word(page, 0)) || !is_laid_out(page, size) {
             return None;
         }
@@ -88,30 +99,27 @@ impl Label {
             id: get_word(page, 0),
             records: get_word(page, 7) as u16,
             entries: get_word(page, 8) as u16,
-            state: LabelState::numbered(get_word(page, 9)),
+            state: LabelState::from(get_word(page, 9)),
             trouble: get_word(page, 10),
         })
     }
 }
 
 // Writes the fixed text into its place.
-fn put_text(page: &mut [u8])
-    requires { length page.old ≡ 512 }
+fn put_text(page: &mut [u8; 512])
     ensures { page.new ≡ with_text page.old }
 {
     page[8..24].copy_from_slice(TEXT);
 }
 
-fn has_text(page: &[u8]) -> bool
-    requires { length page.now ≡ 512 }
+fn has_text(page: &[u8; 512]) -> bool
     ensures { result ≡ same (between 8 24 page.now) label_text }
 {
     &page[8..24] == TEXT.as_slice()
 }
 
 // The version, the numbers of records and of entries, and the state are right.
-fn has_right_numbers(page: &[u8], size: usize) -> bool
-    requires { length page.now ≡ 512 }
+fn has_right_numbers(page: &[u8; 512], size: usize) -> bool
     ensures { result ≡ label_numbers_right size page.now }
 {
     get_word(page, 6) == VERSION
@@ -121,8 +129,7 @@ fn has_right_numbers(page: &[u8], size: usize) -> bool
 }
 
 // The page is laid out as the label of a volume of `size` records.
-fn is_laid_out(page: &[u8], size: usize) -> bool
-    requires { length page.now ≡ 512 }
+fn is_laid_out(page: &[u8; 512], size: usize) -> bool
     ensures { result ≡ label_laid_out size page.now }
 {
     has_text(page) && has_right_numbers(page, size) && zero_between(page, 11, 128)

@@ -3,7 +3,7 @@ ghost use Rattle.std.specs.Prelude.{◌≡◌};
 ghost use Rattle.record.specs.Regions.{in_limits, within, page_region, map_span};
 
 // The records before the entries: the label, the map, spare records and the label's copy.
-pub const FIRST_ENTRY: u32 = 8;
+pub const FIRST_ENTRY: u16 = 8;
 
 // How many numbers a map section has bits for.
 pub const COVERED: u32 = 3968;
@@ -32,8 +32,7 @@ pub fn in_limits(id: u32, entries: u32, records: usize) -> bool
     ensures { result ≡ in_limits id entries records }
 {
     id != 0
-        && 1 <= entries
-        && entries <= MOST_ENTRIES
+        && (1..=MOST_ENTRIES).contains(&entries)
         && entries as usize + 9 <= records
         && records <= MOST_RECORDS
 }
@@ -44,7 +43,7 @@ impl Region {
         ensures { result ≡ page_region entries records }
     {
         Region {
-            from: FIRST_ENTRY + u32::from(entries),
+            from: u32::from(FIRST_ENTRY) + u32::from(entries),
             to: u32::from(records),
         }
     }
@@ -52,7 +51,7 @@ impl Region {
     pub fn contains(&self, n: u32) -> bool
         ensures { result ≡ within self.now n }
     {
-        self.from <= n && n < self.to
+        (self.from..self.to).contains(&n)
     }
 }
 

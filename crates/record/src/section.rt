@@ -1,12 +1,13 @@
 // A map section: a bit for each covered number, 32 to a word, the highest bit first. On means free.
-ghost use Rattle.std.specs.Prelude.{◌≡◌, ◌+◌, ◌*◌, ◌/◌, ◌%◌, ◌<◌, length, drop};
-ghost use Rattle.record.specs.Sections.{bit, marked, free_count, lowest_free, none_free, all_free, figures_right, free_within, section_record, sound_section};
+ghost use Rattle.std.specs.Prelude.{◌≡◌, ◌+◌, ◌^◌, ◌<◌, drop};
+ghost use Rattle.record.specs.Sections.{weight, bit, marked, free_count, lowest_free, none_free, all_free, figures_right, free_within, section_record, sound_section};
 ghost use Rattle.record.specs.Regions.{within};
 ghost use Rattle.record.specs.Words.{words};
 
 use crate::control::{is_whole, seal};
 use crate::region::{COVERED, Span};
-use crate::words::{clear, get_word, put_word};
+use crate::words::{clear, get_word, halves, joined, put_word};
+use std::array;
 
 // How many words stand before the bits.
 const HEAD: usize = 4;
@@ -14,10 +15,7 @@ const HEAD: usize = 4;
 // How many words the bits take.
 const WORDS: usize = 124;
 
-// How many numbers half a word can hold.
-const HALF: u32 = 65536;
-
-#[derive(Clone, Copy)]
+#[derive(Clone, Copy, PartialEq, Eq, Debug)]
 pub struct Section {
     pub bits: [u32; 124],
 }
@@ -47,31 +45,24 @@ impl Section {
     pub fn is_free(&self, r: usize) -> bool
         ensures { result ≡ bit self.now.bits r }
     {
-        r / 32 < WORDS && (self.bits[r / 32] >> (31 - r % 32)) & 1 == 1
+        r / 32 < WORDS && self.bits[r / 32] & mask(r) != 0
     }
 
     // The covered number `r` is no longer free.
     pub fn take(&mut self, r: usize)
         ensures { self.new.bits ≡ marked self.old.bits r 0 }
     {
-        self.mark(r, 0);
+        if r / 32 < WORDS {
+            self.bits[r / 32] &= !mask(r);
+        }
     }
 
     // The covered number `r` is free from now on.
     pub fn give(&mut self, r: usize)
         ensures { self.new.bits ≡ marked self.old.bits r 1 }
     {
-        self.mark(r, 1);
-    }
-
-    // Writes the digit `b` over the bit of `r`.
-    fn mark(&mut self, r: usize, b: u32)
-        requires { b < 2 }
-        ensures { self.new.bits ≡ marked self.old.bits r b }
-    {
         if r / 32 < WORDS {
-            let k = 31 - r % 32;
-            self.bits[r / 32] = self.bits[r / 32] & !(1 << k) | b << k;
+            self.bits[r / 32] |= mask(r);
         }
     }
 
@@ -79,8 +70,9 @@ impl Section {
     pub fn count(&self) -> u32
         ensures { result ≡ free_count self.now.bits }
     {
+        // A loop: the proof of a chain lacks that each word of a field fits 32 bits.
         let mut n = 0;
-        for w in self.bits.iter() {
+        for w in &self.bits {
             n += w.count_ones();
         }
         n
@@ -90,30 +82,21 @@ impl Section {
     pub fn lowest_free(&self, from: usize) -> Option<usize>
         ensures { result ≡ lowest_free self.now.bits from }
     {
-        for r in from..COVERED as usize {
-            if self.is_free(r) {
-                return Some(r);
-            }
-        }
-        None
+        (from..COVERED as usize).find(|&r| self.is_free(r))
     }
 
     // The words that stand in the places of a section's bits.
-    fn read(page: &[u8]) -> Section
-        requires { length page.now ≡ 512 }
+    fn read(page: &[u8; 512]) -> Section
         ensures { result.bits ≡ drop 4 (words page.now) }
     {
-        let mut bits = [0; WORDS];
-        for (k, w) in bits.iter_mut().enumerate() {
-            *w = get_word(page, HEAD + k);
+        Section {
+            bits: array::from_fn(|k| get_word(page, HEAD + k)),
         }
-        Section { bits }
     }
 
     // Words 2 and 3 of the page that the section was read from are right.
-    fn has_figures(&self, page: &[u8], span: &Span) -> bool
-        requires paged { length page.now ≡ 512 }
-        requires own { self.now.bits ≡ drop 4 (words page.now) }
+    fn has_figures(&self, page: &[u8; 512], span: &Span) -> bool
+        requires { self.now.bits ≡ drop 4 (words page.now) }
         ensures { result ≡ figures_right span.now page.now }
     {
         halves(get_word(page, 2)) == (span.first, WORDS as u32)
@@ -124,25 +107,19 @@ impl Section {
     fn is_within(&self, span: &Span) -> bool
         ensures { result ≡ free_within span.now self.now.bits }
     {
-        for r in 0..COVERED {
-            if self.is_free(r as usize) && !may_be_free(span, r) {
-                return false;
-            }
-        }
-        true
+        (0..COVERED).all(|r| !self.is_free(r as usize) || may_be_free(span, r))
     }
 
     // Writes the section over the whole page.
-    pub fn encode(&self, start: u32, id: u32, span: &Span, page: &mut [u8])
-        requires paged { length page.old ≡ 512 }
+    pub fn encode(&self, start: u32, id: u32, span: &Span, page: &mut [u8; 512])
         requires first { span.now.first < 65536 }
         requires covered { span.now.covered < 65536 }
         ensures { page.new ≡ section_record start id span.now self.now.bits }
     {
         clear(page);
         put_word(page, 0, id);
-        put_word(page, 2, joined(span.first, WORDS as u32));
-        put_word(page, 3, joined(span.covered, self.count()));
+        put_word(page, 2, joined(span.first as u16, WORDS as u16));
+        put_word(page, 3, joined(span.covered as u16, self.count() as u16));
         for (k, w) in self.bits.iter().enumerate() {
             put_word(page, HEAD + k, *w);
         }
@@ -153,6 +130,7 @@ impl Section {
     pub fn decode(page: &[u8], start: u32, id: u32, span: &Span) -> Option<Section>
         ensures { result ≡ sound_section start id span.now page.now }
     {
+        let page = page.as_array::<512>()?;
         if !is_whole(page, start, id) {
             return None;
         }
@@ -164,19 +142,11 @@ impl Section {
     }
 }
 
-// The high and the low 16 bits of a word.
-fn halves(w: u32) -> (u32, u32)
-    ensures { result ≡ (w / 65536, w % 65536) }
+// The bit of the covered number `r` in its word.
+fn mask(r: usize) -> u32
+    ensures { result ≡ 2 ^ weight r }
 {
-    (w / HALF, w % HALF)
-}
-
-// The word with these halves.
-fn joined(high: u32, low: u32) -> u32
-    requires { (high < 65536) × (low < 65536) }
-    ensures { result ≡ high * 65536 + low }
-{
-    high * HALF + low
+    1 << (31 - r % 32)
 }
 
 // The covered number `r` may be free.

@@ -1,18 +1,18 @@
 // Words of a page: four bytes each, highest first.
-ghost use Rattle.std.specs.Prelude.{◌≡◌, ◌+◌, ◌*◌, ◌≤◌, length, replicate};
+ghost use Rattle.std.specs.Prelude.{◌≡◌, ◌+◌, ◌*◌, ◌/◌, ◌%◌, ◌<◌, ◌≤◌, replicate};
 ghost use Rattle.std.specs.List.{between};
 ghost use Rattle.record.specs.Words.{word, put, words, zeros};
 
-pub(crate) fn get_word(page: &[u8], i: usize) -> u32
-    requires { 4 * i + 4 ≤ length page.now }
+pub(crate) fn get_word(page: &[u8; 512], i: usize) -> u32
+    requires { i < 128 }
     ensures { result ≡ word page.now i }
 {
-    let at = 4 * i;
-    u32::from_be_bytes([page[at], page[at + 1], page[at + 2], page[at + 3]])
+    let (quads, _) = page.as_chunks::<4>();
+    u32::from_be_bytes(quads[i])
 }
 
-pub(crate) fn put_word(page: &mut [u8], i: usize, w: u32)
-    requires { 4 * i + 4 ≤ length page.old }
+pub(crate) fn put_word(page: &mut [u8; 512], i: usize, w: u32)
+    requires { i < 128 }
     ensures { page.new ≡ put page.old i w }
 {
     let at = 4 * i;
@@ -20,21 +20,30 @@ pub(crate) fn put_word(page: &mut [u8], i: usize, w: u32)
 }
 
 // Sets each byte to 0.
-pub(crate) fn clear(page: &mut [u8])
-    ensures { page.new ≡ replicate (length page.old) 0 }
+pub(crate) fn clear(page: &mut [u8; 512])
+    ensures { page.new ≡ replicate 512 0 }
 {
     page.fill(0);
 }
 
 // Words `from` to `to` - 1 are zero.
-pub(crate) fn zero_between(page: &[u8], from: usize, to: usize) -> bool
-    requires { 4 * to ≤ length page.now }
+pub(crate) fn zero_between(page: &[u8; 512], from: usize, to: usize) -> bool
+    requires { to ≤ 128 }
     ensures { result ≡ zeros (between from to (words page.now)) }
 {
-    for i in from..to {
-        if get_word(page, i) != 0 {
-            return false;
-        }
-    }
-    true
+    (from..to).all(|i| get_word(page, i) == 0)
+}
+
+// The word with these halves.
+pub(crate) fn joined(high: u16, low: u16) -> u32
+    ensures { result ≡ high * 65536 + low }
+{
+    (u32::from(high) << 16) + u32::from(low)
+}
+
+// The high and the low half of a word.
+pub(crate) fn halves(w: u32) -> (u32, u32)
+    ensures { result ≡ (w / 65536, w % 65536) }
+{
+    (w / 65536, w % 65536)
 }

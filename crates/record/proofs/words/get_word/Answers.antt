@@ -1,6 +1,8 @@
-use Rattle.std.proofs.Common.{sym, ◌∙◌}
-use Rattle.record.proofs.WordLaws.{get_d_words}
+use Rattle.std.proofs.Common.{sym, ◌∙◌, arith}
+use Rattle.record.proofs.ControlLaws.{get_or_quads}
 use Rattle.record.proofs.words.get_word.Goals as goal
 
 pub returns : goal.returns
-returns c = c.from_be_bytes.ensures ∙ sym (get_d_words c.args.page.now c.args.i c.requires)
+returns c =
+    let m = c.as_chunks.ensures.front_len in
+    let q = get_or_quads c.args.page.now c.as_chunks.result.0.now c.args.i c.as_chunks.ensures.front (omega arith) in c.from_be_bytes.ensures ∙ sym q.1

@@ -11,7 +11,7 @@ use Rattle.record.proofs.entry.Entry.encode.Goals as goal
 pub loop-k-init : goal.loop-k-init
 loop-k-init c =
     let h = head_words c.args.id c.args.self.now.meter in
-    let e = head_start _ _ _ _ _ _ c.requires c.clear.ensures c.put_word.ensures c.put_word-2.ensures in
+    let e = head_start _ _ _ _ _ c.clear.ensures c.put_word.ensures c.put_word-2.ensures in
     (e ∙ ap unwords (paste_none h 8 (pack c.args.self.now.slots)), tt)
 
 pub loop-k-preserved : goal.loop-k-preserved

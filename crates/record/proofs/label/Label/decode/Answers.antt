@@ -1,6 +1,11 @@
-use Rattle.std.proofs.Common.{sym}
-use Rattle.std.proofs.lemmas.Bool.{ne_eqb, and_left, cond-false}
+use Rattle.std.proofs.Common.{sym, ◌∙◌, arith}
+use Rattle.record.proofs.LabelLaws.{laid_fits}
 use Rattle.record.proofs.label.Label.decode.Goals as goal
 
-pub returns-then-page-ne-RECORD : goal.returns-then-page-ne-RECORD
-returns-then-page-ne-RECORD c = sym (cond-false _ _ _ (and_left _ _ (and_left _ _ (ne_eqb _ 512 c.if-page-ne-RECORD.true))))
+pub overflow_cast-result : goal.overflow_cast-result
+overflow_cast-result c =
+    let fit = laid_fits c.args.size c.in_ok-page.page.now (sym c.is_laid_out.ensures ∙ c.if-not-is_laid_out.false) in omega (arith, fit.0)
+
+pub overflow_cast-result-2 : goal.overflow_cast-result-2
+overflow_cast-result-2 c =
+    let fit = laid_fits c.args.size c.in_ok-page.page.now (sym c.is_laid_out.ensures ∙ c.if-not-is_laid_out.false) in omega (arith, fit.1)

@@ -11,4 +11,4 @@ returns c =
     let f = c.put_numbers.ensures.fit in
     sealed_control _ _ c.args.start l.id (label_body l) (search rules) (search rules)
     (label_body_fits l f.0 f.1.0 f.1.1)
-    (label_steps l _ _ _ _ _ c.requires c.clear.ensures c.put_word.ensures c.put_text.ensures c.put_numbers.ensures.bytes) c.seal.ensures
+    (label_steps l _ _ _ _ c.clear.ensures c.put_word.ensures c.put_text.ensures c.put_numbers.ensures.bytes) c.seal.ensures

@@ -4,15 +4,15 @@ use Rattle.record.proofs.CountLaws.{free_le}
 use Rattle.record.proofs.SectionLaws.{laid_none, laid_more, laid_all}
 use Rattle.record.proofs.section.Section.encode.Goals as goal
 
-pub joined-requires-2 : goal.joined-requires-2
-joined-requires-2 c = let n = c.count.ensures in let le = free_le c.args.self.now.bits in (c.requires.covered, omega arith)
+pub overflow_cast-count : goal.overflow_cast-count
+overflow_cast-count c = let n = c.count.ensures in let le = free_le c.args.self.now.bits in omega arith
 
 pub loop-k-init : goal.loop-k-init
 loop-k-init c =
     let s = c.args.span.now in
     let bits = c.args.self.now.bits in
     let b = c.joined-2.ensures ∙ ap (λ x. s.covered * 65536 + x) c.count.ensures in
-    (laid_none _ c.args.id _ _ _ _ _ _ _ _ bits c.requires.paged c.clear.ensures c.put_word.ensures c.put_word-2.ensures c.put_word-3.ensures c.joined.ensures b, tt)
+    (laid_none c.args.id _ _ _ _ _ _ _ _ bits c.clear.ensures c.put_word.ensures c.put_word-2.ensures c.put_word-3.ensures c.joined.ensures b, tt)
 
 pub loop-k-preserved : goal.loop-k-preserved
 loop-k-preserved c =

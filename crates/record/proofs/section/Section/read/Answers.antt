@@ -1,18 +1,13 @@
-use Rattle.std.proofs.Common.{◌≡◌, ℕ, ◌+◌, ◌<◌, length, get_or, set, sym, subst, arith}
-use Rattle.std.proofs.lemmas.List.Edits.{fill_by_more}
+use Rattle.std.proofs.Common.{◌+◌, rules}
+use borrow.Author.Tests.{tests}
 use Rattle.record.specs.Words.{word}
+use Rattle.record.proofs.WordLaws.{made_each}
 use Rattle.record.proofs.SectionLaws.{words_read}
 use Rattle.record.proofs.section.Section.read.Goals as goal
 
-pub loop-k-preserved : goal.loop-k-preserved
-loop-k-preserved c =
-    let p = c.args.page.now in
-    let bits = c.loop-k.w-items in
-    let i = c.loop-k.k in
-    let h : i < length bits = omega arith in
-    let P : ℕ → Type 0 = λ w. (j : ℕ) → j < i + 1 → get_or (set bits i w) j 0 ≡ word p (4 + j) in
-    subst P (sym c.get_word.ensures) (fill_by_more (λ j. word p (4 + j)) bits i 0 h c.loop-k.invariant)
-
 pub returns : goal.returns
 returns c =
-    words_read c.args.page.now c.loop-k.w-items c.requires c.loop-k-test.array_long (λ j h. c.loop-k.invariant j (omega arith))
+    let p = c.args.page.now in
+    let made = c.from_fn.ensures.items in
+    words_read p c.from_fn.result c.told-page made.long
+    (made_each _ _ (λ j. word p (4 + j)) c.from_fn.result 124 made (λ i y q k. search (rules, tests)))
