@@ -1,5 +1,5 @@
 -- Laws of the tables in memory: how many places are used, the lowest unused one, the sections' counts.
-use Rattle.std.proofs.Common.{◌≡◌, ℕ, zero, suc, ◌+◌, ◌<◌, ◌≤◌, List, [], ◌∷◌, length, get_or, drop, set, Some, None, Ok, Option, sym, refl, ap, ◌∙◌, inl, inr, arith}
+use Rattle.std.proofs.Common.{◌≡◌, ℕ, zero, suc, ◌+◌, ◌<◌, ◌≤◌, List, [], ◌∷◌, length, get_or, drop, set, Some, None, Ok, Option, slice_get, sym, refl, ap, ◌∙◌, inl, inr, arith}
 use Rattle.std.proofs.lemmas.List.{at_drop_more, get_or_past, get_or-set_same, get_or-set_other, set_past}
 use Rattle.std.proofs.lemmas.Bool.{cases_lt, cases_eq, ne_eqb}
 use Rattle.model.specs.declared.memory.File.{File}
@@ -95,9 +95,17 @@ counting_drop ns k h = at_drop_more (counting_free k) ns k 0 h
 
 -- ---- withdrawing
 
-pub withdrawing_some : (v : Memory) (t a : ℕ) (rest : List ℕ) → v.service ≡ a ∷ rest
-    → withdrawing v t v.service ≡ keep (granted t a) (with_tickets (with_service v rest) (set v.tickets t (Some a)))
-withdrawing_some v t a rest e = ap (withdrawing v t) e
+first_and_rest : (xs : List ℕ) (a : ℕ) → Some a ≡ slice_get xs 0 → xs ≡ a ∷ drop 1 xs
+first_and_rest [] a e = cc
+first_and_rest (x ∷ xs) a e = cc
 
-pub withdrawing_none : (v : Memory) (t : ℕ) (after : List ℕ) → v.service ≡ [] → after ≡ [] → withdrawing v t v.service ≡ keep (shortage v) (with_service v after)
-withdrawing_none v t after e f = ap (withdrawing v t) e ∙ ap (λ s. keep (shortage v) (with_service v s)) (e ∙ sym f)
+no_first : (xs : List ℕ) → None ≡ slice_get xs 0 → xs ≡ []
+no_first [] e = refl
+no_first (x ∷ xs) e = cc
+
+pub withdrawing_some : (v : Memory) (t a : ℕ) (rest : List ℕ) → Some a ≡ slice_get v.service 0 → rest ≡ drop 1 v.service
+    → withdrawing v t v.service ≡ keep (granted t a) (with_tickets (with_service v rest) (set v.tickets t (Some a)))
+withdrawing_some v t a rest first after = ap (withdrawing v t) (first_and_rest v.service a first ∙ ap (λ l. a ∷ l) (sym after))
+
+pub withdrawing_none : (v : Memory) (t : ℕ) → None ≡ slice_get v.service 0 → withdrawing v t v.service ≡ keep (shortage v) v
+withdrawing_none v t none = let e = no_first v.service none in ap (withdrawing v t) e

@@ -1,6 +1,5 @@
 -- The memory as the plans speak of it.
 use Rattle.memory.specs.declared.state.Memory.{Memory}
-use Rattle.memory.specs.Numbers.{listed}
 use Rattle.model.specs.Memory as model
 use Rattle.std.specs.Prelude.{◌≡◌, ℕ, List, Ok, Err, Result}
 use Rattle.drive.specs.Faults.{Refusal}
@@ -15,8 +14,8 @@ view v =
       phase = v.phase;
       chart = v.chart;
       counts = v.counts;
-      service = listed v.service;
-      unsettled = listed v.unsettled;
+      service = v.service.items;
+      unsettled = v.unsettled.items;
       tickets = v.tickets;
       files = v.files;
       id = v.id;

@@ -7,8 +7,8 @@ ghost use Rattle.model.specs.Memory.{attached, file_of, in_some_file};
 ghost use Rattle.model.specs.Plans.{is_shut, is_open, is_closing, is_idle, unused_file};
 
 use crate::entries;
-use crate::numbers::Numbers;
 use crate::state::Memory;
+use arrayvec::ArrayVec;
 use drive::fault::{Fault, Question};
 use model::memory::{File, MapState, Phase};
 
@@ -24,8 +24,8 @@ impl Memory {
             phase: Phase::Shut,
             chart: MapState::Idle,
             counts: [0; 3],
-            service: Numbers::new(),
-            unsettled: Numbers::new(),
+            service: ArrayVec::new(),
+            unsettled: ArrayVec::new(),
             tickets: [None; 4],
             files: [None; 8],
             id: 0,

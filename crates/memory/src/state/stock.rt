@@ -1,7 +1,7 @@
 // The stock, what the map is doing, and the volume's label as it was opened.
 ghost use Rattle.std.specs.Prelude.{◌≡◌, ◌+◌, ◌<◌, ◌≤◌, ◌&&◌, [], ◌∷◌, ◌++◌, length, IfSome, ◌==◌, slice_set};
+ghost use Rattle.arrayvec.specs.ArrayVec.{array_vec_len};
 ghost use Rattle.drive.specs.Faults.{said};
-ghost use Rattle.memory.specs.Numbers.{listed};
 ghost use Rattle.memory.specs.View.{view, label_kept, opened_as};
 ghost use Rattle.model.specs.Carried.{asked};
 ghost use Rattle.model.specs.Memory.{with_phase, with_stock, held};
@@ -10,8 +10,9 @@ ghost use Rattle.model.specs.Stock.{counting_free};
 ghost use Rattle.model.specs.declared.memory.MapState.TheVariants.{Idle, Writing};
 ghost use Rattle.model.specs.declared.memory.Phase.TheVariants.{Shut};
 
-use crate::numbers::Numbers;
+use crate::numbers::append;
 use crate::state::Memory;
+use arrayvec::ArrayVec;
 use drive::fault::{Fault, Question};
 use model::memory::{MapState, Phase};
 use record::label::{Label, LabelState};
@@ -34,10 +35,11 @@ impl Memory {
     }
 
     // The addresses in service.
-    pub fn service(&self) -> Numbers<32>
-        ensures value { listed result ≡ (view self.now).service }
+    pub fn service(&self) -> &[u16]
+        ensures value { result.now ≡ (view self.now).service }
+        ensures few { length result.now ≤ 32 }
     {
-        self.service
+        &self.service
     }
 
     // The section that is being written.
@@ -48,20 +50,20 @@ impl Memory {
     }
 
     // Section `k` is being written with so many free addresses; those taken are unsettled until it is.
-    pub fn take(&mut self, k: u8, count: u32, taken: &Numbers<32>)
-        requires { held (view self.old) + length (listed taken.now) ≤ 32 }
-        ensures { view self.new ≡ with_stock (view self.old) (Writing k) (slice_set (view self.old).counts k count) (view self.old).service ((view self.old).unsettled ++ listed taken.now) }
+    pub fn take(&mut self, k: u8, count: u32, taken: &[u16])
+        requires { held (view self.old) + length taken.now ≤ 32 }
+        ensures { view self.new ≡ with_stock (view self.old) (Writing k) (slice_set (view self.old).counts k count) (view self.old).service ((view self.old).unsettled ++ taken.now) }
     {
         self.write(k, count);
-        self.unsettled.append(taken);
+        append(&mut self.unsettled, taken);
     }
 
     // Section `k` is being written with so many free addresses; those left are still in service.
-    pub fn give(&mut self, k: u8, count: u32, left: &Numbers<32>)
-        requires { length (listed left.now) ≤ length (view self.old).service }
-        ensures { view self.new ≡ with_stock (view self.old) (Writing k) (slice_set (view self.old).counts k count) (listed left.now) (view self.old).unsettled }
+    pub fn give(&mut self, k: u8, count: u32, left: ArrayVec<u16, 32>)
+        requires { array_vec_len left ≤ length (view self.old).service }
+        ensures { view self.new ≡ with_stock (view self.old) (Writing k) (slice_set (view self.old).counts k count) left.items (view self.old).unsettled }
     {
-        self.service = *left;
+        self.service = left;
         self.write(k, count);
     }
 
@@ -79,9 +81,8 @@ impl Memory {
     pub fn settle(&mut self)
         ensures { view self.new ≡ with_stock (view self.old) Idle (view self.old).counts ((view self.old).service ++ (view self.old).unsettled) [] }
     {
-        let unsettled = self.unsettled;
-        self.unsettled = Numbers::new();
-        self.service.append(&unsettled);
+        append(&mut self.service, &self.unsettled);
+        self.unsettled.clear();
         self.chart = MapState::Idle;
     }
 

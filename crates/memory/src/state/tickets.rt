@@ -92,7 +92,7 @@ impl Memory {
         let Some(ticket) = lowest_unused(&self.tickets) else {
             return Err(Question::Ticket.refused());
         };
-        let Some(address) = self.service.pop_oldest() else {
+        let Some(address) = self.service.pop_at(0) else {
             return Ok(self.shortage());
         };
         self.fill_ticket(ticket, address);

@@ -5,9 +5,9 @@ use Rattle.model.specs.Stock.{all_marked}
 use Rattle.memory.proofs.map.give_back.Goals as goal
 
 pub loop-a-preserved : goal.loop-a-preserved
-loop-a-preserved g c =
+loop-a-preserved c =
     let bits = c.loop-a.section.bits in
-    let xs = c.as_slice-a-items.result.now in
+    let xs = c.args.given.now in
     let i = c.loop-a.a-index in
     let k = c.args.k in
     let more : all_marked k 1 (drop i xs) bits ≡ all_marked k 1 (drop (i + 1) xs) (marked bits (get_or xs i 0 - 3968 * k) 1) =
@@ -17,7 +17,6 @@ loop-a-preserved g c =
     cc
 
 pub returns : goal.returns
-returns g c =
-    let all = at_drop_all (λ l. all_marked c.args.k 1 l c.loop-a.section.bits) c.as_slice-a-items.result.now c.loop-a.a-index c.loop-a-test.false in
-    let same = c.as_slice-a-items.ensures.same in
+returns c =
+    let all = at_drop_all (λ l. all_marked c.args.k 1 l c.loop-a.section.bits) c.args.given.now c.loop-a.a-index c.loop-a-test.false in
     cc

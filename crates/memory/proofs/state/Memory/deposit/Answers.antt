@@ -41,5 +41,5 @@ pub returns : goal.returns
 unfolding deposit_plan
 returns c =
     let s = ap (λ m. with_service m (m.service ++ (c.args.address ∷ []))) c.free_ticket.ensures in
-    let after = ap (with_service (view c.free_ticket.new.self)) c.push.ensures.after in
+    let after = ap (with_service (view c.free_ticket.new.self)) c.push.ensures.items in
     record { planned = asked_yes _ _ _ c.in_ok-ask_ticket.ensures ∙ ap (keep done) (sym s ∙ sym after); same = tt }

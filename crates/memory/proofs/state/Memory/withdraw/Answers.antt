@@ -1,11 +1,10 @@
-use Rattle.std.proofs.Common.{length, sym, refl, ap, ◌∙◌, arith}
+use Rattle.std.proofs.Common.{sym, refl, ap, ◌∙◌, ap₂, arith}
 use Rattle.std.proofs.lemmas.Result.{err_from_is_err_and}
 use Rattle.model.specs.Memory.{with_service}
 use Rattle.model.specs.Outcomes.{keep, refuse, granted}
 use Rattle.model.specs.Plans.{withdraw_plan}
 use Rattle.drive.specs.Faults.{told}
 use Rattle.model.proofs.CarriedLaws.{asked_yes, asked_no, found_some, found_none}
-use Rattle.memory.specs.Numbers.{listed}
 use Rattle.memory.specs.View.{view}
 use Rattle.memory.proofs.StateLaws.{lowest_is, withdrawing_some, withdrawing_none}
 use Rattle.memory.proofs.state.Memory.withdraw.Goals as goal
@@ -24,16 +23,15 @@ returns-in_default c =
       same = refl;
     }
 
-pub returns-in_default-pop_oldest : goal.returns-in_default-pop_oldest
+pub returns-in_default-pop_at : goal.returns-in_default-pop_at
 unfolding withdraw_plan
-returns-in_default-pop_oldest c =
+returns-in_default-pop_at c =
     let v = view c.args.self.now in
-    let popped = c.in_default-pop_oldest.ensures.taken in
     record {
       planned =
           asked_yes _ _ _ c.in_ok-ask_open.ensures ∙ (found_some _ _ _ _ c.in-Some.ensures
-          ∙ (withdrawing_none v c.in-Some.ticket (listed c.pop_oldest.new.self) popped.0 popped.1
-          ∙ ap (λ r. keep r (with_service v (listed c.pop_oldest.new.self))) (sym c.shortage.ensures)));
+          ∙ (withdrawing_none v c.in-Some.ticket c.in_default-pop_at.ensures.value
+          ∙ ap₂ (λ r s. keep r (with_service v s)) (sym c.shortage.ensures) (sym (ap (λ l. l.items) c.in_default-pop_at.ensures.absent))));
       same = tt;
     }
 
@@ -41,7 +39,7 @@ pub fill_ticket-requires : goal.fill_ticket-requires
 fill_ticket-requires c =
     let v = c.args.self.now in
     let h = lowest_is v.tickets c.in-Some.ticket c.in-Some.ensures in
-    let n = ap length c.in-Some-pop_oldest.ensures.taken in
+    let n = c.in-Some-pop_at.ensures.len in
     record { ticketed = omega (arith, h.0, v.four); room = omega (arith, n, v.few) }
 
 pub returns : goal.returns
@@ -51,7 +49,7 @@ returns c =
     record {
       planned =
           asked_yes _ _ _ c.in_ok-ask_open.ensures ∙ (found_some _ _ _ _ c.in-Some.ensures
-          ∙ (withdrawing_some v c.in-Some.ticket c.in-Some-pop_oldest.address (listed c.pop_oldest.new.self) c.in-Some-pop_oldest.ensures.taken
-          ∙ ap (keep (granted c.in-Some.ticket c.in-Some-pop_oldest.address)) (sym c.fill_ticket.ensures)));
+          ∙ (withdrawing_some v c.in-Some.ticket c.in-Some-pop_at.address c.pop_at.new.self.items c.in-Some-pop_at.ensures.value c.in-Some-pop_at.ensures.items
+          ∙ ap (keep (granted c.in-Some.ticket c.in-Some-pop_at.address)) (sym c.fill_ticket.ensures)));
       same = tt;
     }
