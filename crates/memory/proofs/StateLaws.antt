@@ -1,6 +1,11 @@
 -- Laws of the tables in memory: how many places are used, the lowest unused one, the sections' counts.
-use Rattle.std.proofs.Common.{◌≡◌, ℕ, zero, suc, ◌+◌, ◌<◌, ◌≤◌, List, [], ◌∷◌, length, get_or, drop, set, Some, None, Ok, Option, slice_get, sym, refl, ap, ◌∙◌, inl, inr, arith}
-use Rattle.std.proofs.lemmas.List.{at_drop_more, get_or_past, get_or-set_same, get_or-set_other, set_past}
+use Rattle.std.proofs.Common.{◌≡◌, ℕ, zero, suc, ◌+◌, ◌<◌, ◌≤◌, cond, List, [], ◌∷◌, length, get_or, drop, set, Some, None, Ok, Option, slice_get, sym, refl, ap, ◌∙◌, inl, inr, arith}
+use Rattle.std.proofs.lemmas.List.{get_or_past, get_or-set_same, get_or-set_other, set_past}
+use Rattle.std.specs.List.{count_by, position, position_from}
+use Rattle.std.specs.Option.{is_some, is_none}
+use Rattle.std.specs.Prelude.{nat_lt}
+use Rattle.std.proofs.lemmas.Iterator.Adapters.{position_from-zero}
+use Rattle.std.proofs.lemmas.List.Sums.{sum_by-cons}
 use Rattle.std.proofs.lemmas.Bool.{cases_lt, cases_eq, ne_eqb}
 use Rattle.model.specs.declared.memory.File.{File}
 use Rattle.model.specs.Carried.{asked}
@@ -12,8 +17,10 @@ use Rattle.memory.specs.Bounds.{number_in}
 
 -- ---- used places
 
-pub used_drop : {X : Type 0} (ts : List (Option X)) (i : ℕ) (o : Option X) → i < length ts → get_or ts i None ≡ o → used (drop i ts) ≡ used (o ∷ drop (i + 1) ts)
-used_drop ts i o h e = at_drop_more used ts i None h ∙ ap (λ x. used (x ∷ drop (i + 1) ts)) e
+pub used_counts : {X : Type 0} (ts : List (Option X)) → used ts ≡ count_by is_some ts
+used_counts [] = refl
+used_counts (None ∷ ts) = let i = used_counts ts in let c = sum_by-cons (λ o. cond (is_some o) 1 0) None ts in omega arith
+used_counts (Some x ∷ ts) = let i = used_counts ts in let c = sum_by-cons (λ o. cond (is_some o) 1 0) (Some x) ts in omega arith
 
 pub used_one_more : (ts : List (Option ℕ)) (t : ℕ) (o : Option ℕ) → used (set ts t o) ≤ used ts + 1
 used_one_more [] t o = omega arith
@@ -40,8 +47,13 @@ used_no_more (Some b ∷ ts) (suc t) = let i = used_no_more ts t in omega arith
 
 -- ---- the lowest unused ticket
 
-pub unused_drop : (ts : List (Option ℕ)) (i : ℕ) (o : Option ℕ) → i < length ts → get_or ts i None ≡ o → unused_from i (drop i ts) ≡ unused_from i (o ∷ drop (i + 1) ts)
-unused_drop ts i o h e = at_drop_more (unused_from i) ts i None h ∙ ap (λ x. unused_from i (x ∷ drop (i + 1) ts)) e
+unused_from_place : (n : ℕ) (ts : List (Option ℕ)) → position_from is_none n ts ≡ unused_from n ts
+unused_from_place n [] = refl
+unused_from_place n (None ∷ ts) = refl
+unused_from_place n (Some a ∷ ts) = unused_from_place (n + 1) ts
+
+pub first_unused : (ts : List (Option ℕ)) → position is_none ts ≡ unused_from 0 ts
+first_unused ts = position_from-zero is_none ts ∙ unused_from_place 0 ts
 
 pub unused_is : (n : ℕ) (ts : List (Option ℕ)) (k : ℕ) → Some k ≡ unused_from n ts → (j : ℕ) × (k ≡ n + j) × (j < length ts) × (get_or ts j None ≡ None)
 unused_is n [] k e = let z : ◌≡◌ {A = ℕ} 0 1 = cc in absurd (omega arith)
@@ -90,8 +102,12 @@ numbered_set fs i f all here k =
 
 -- ---- the counts of the sections
 
-pub counting_drop : (ns : List ℕ) (k : ℕ) → k < length ns → counting_free k (drop k ns) ≡ counting_free k (get_or ns k 0 ∷ drop (k + 1) ns)
-counting_drop ns k h = at_drop_more (counting_free k) ns k 0 h
+counting_from_place : (k : ℕ) (ns : List ℕ) → position_from (λ n. nat_lt 0 n) k ns ≡ counting_free k ns
+counting_from_place k [] = refl
+counting_from_place k (n ∷ ns) = ap (cond (nat_lt 0 n) (Some k)) (counting_from_place (k + 1) ns)
+
+pub first_counting : (ns : List ℕ) → position (λ n. nat_lt 0 n) ns ≡ counting_free 0 ns
+first_counting ns = position_from-zero (λ n. nat_lt 0 n) ns ∙ counting_from_place 0 ns
 
 -- ---- withdrawing
 

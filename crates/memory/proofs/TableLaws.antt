@@ -1,8 +1,8 @@
 -- Loops over the slots of a file and over the table of files.
-use Rattle.std.proofs.Common.{◌≡◌, ℕ, ◌+◌, ◌<◌, false, ◌&&◌, ◌||◌, List, length, get_or, drop, Some, None, Ok, Err, Option, sym, refl, ap, ◌∙◌, arith}
-use Rattle.std.proofs.lemmas.List.{drop_more, set-get_or}
+use Rattle.std.proofs.Common.{◌≡◌, ℕ, ◌&&◌, ◌||◌, List, [], ◌∷◌, Some, None, Ok, Err, Option, Result, sym, refl, ap, ◌∙◌, arith}
+use Rattle.std.specs.List.{list_all, list_any}
+use Rattle.std.proofs.lemmas.List.{set-get_or}
 use Rattle.model.specs.declared.memory.Slot.{Slot}
-use Rattle.model.specs.declared.memory.Slot.TheVariants.{Empty, Nulled, Live, Leaving, Left}
 use Rattle.model.specs.declared.memory.File.{File}
 use Rattle.drive.specs.Answers.{Answer}
 use Rattle.drive.specs.Faults.{Refusal, refusal, no_record}
@@ -11,20 +11,20 @@ use Rattle.model.specs.Outcomes.{Outcome, refuse, need}
 use Rattle.model.specs.Slots.{at_rest, all_at_rest, with_slot}
 use Rattle.model.proofs.CarriedLaws.{found_some, found_none}
 use Rattle.memory.specs.Slots.{slot_changed}
+use Rattle.memory.specs.View.{came_to, UnlessAcceptedSame}
+use Rattle.drive.specs.declared.fault.Fault.{Fault}
+use Rattle.drive.specs.Faults.{said, told}
+use Rattle.model.specs.Carried.{replied}
+use Rattle.model.specs.Replies.{done_reply}
+use Rattle.model.specs.Outcomes.{keep, done}
 
-pub rest_next : (ss : List Slot) (i : ℕ) (s : Slot) → i < length ss → get_or ss i Empty ≡ s → all_at_rest (drop i ss) ≡ (at_rest s && all_at_rest (drop (i + 1) ss))
-rest_next ss i s h e = ap all_at_rest (drop_more ss i Empty h) ∙ ap (λ x. at_rest x && all_at_rest (drop (i + 1) ss)) e
+pub each_at_rest : (ss : List Slot) → list_all at_rest ss ≡ all_at_rest ss
+each_at_rest [] = refl
+each_at_rest (s ∷ ss) = ap (λ b. at_rest s && b) (each_at_rest ss)
 
-pub not_at_rest : (s : Slot) → (s ≡ Empty → ⊥) → ((a : ℕ) → s ≡ Live a → ⊥) → at_rest s ≡ false
-not_at_rest Empty e l = absurd (e refl)
-not_at_rest (Nulled a) e l = refl
-not_at_rest (Live a) e l = absurd (l a refl)
-not_at_rest (Leaving a) e l = refl
-not_at_rest (Left a) e l = refl
-
-pub file_next : (fs : List (Option File)) (i n : ℕ) (f : Option File) → i < length fs → get_or fs i None ≡ f
-    → in_some_file (drop i fs) n ≡ (is_entry f n || in_some_file (drop (i + 1) fs) n)
-file_next fs i n f h e = ap (λ l. in_some_file l n) (drop_more fs i None h) ∙ ap (λ x. is_entry x n || in_some_file (drop (i + 1) fs) n) e
+pub in_some : (fs : List (Option File)) (n : ℕ) → in_some_file fs n ≡ list_any (λ f. is_entry f n) fs
+in_some [] n = refl
+in_some (f ∷ fs) n = ap (λ b. is_entry f n || b) (in_some fs n)
 
 -- ---- a file that is lent out of the table
 
@@ -47,3 +47,10 @@ pub slot_accepted : (x y : File) (p : ℕ) (q : Option Slot) (k : Slot → Outco
     → (s : Slot) × (need 10 q k ≡ k s) × (y ≡ with_slot x p s)
 slot_accepted x y p None k e = let t : ◌≡◌ {A = Answer} (Ok tt) (Err (refusal 10 no_record)) = ap (λ z. z.0) e in let z : ◌≡◌ {A = ℕ} 0 1 = cc in absurd (omega arith)
 slot_accepted x y p (Some s) k e = (s, found_some 10 (Some s) k s refl, ap (λ z. z.1) e)
+
+-- what a call on a slot of the file in place f comes to
+pub slot_moved : (v : Memory) (f : ℕ) (x y : File) (p : ℕ) (q : Option Slot) (r : Result (Unit {0}) Fault) → file_of v f ≡ Some x → (said r, y) ≡ slot_changed x p q
+    → (need 10 q (λ s. keep done (with_file v f (Some (with_slot x p s)))) ≡ came_to (replied done_reply r) (with_file v f (Some y)))
+    × UnlessAcceptedSame r v (with_file v f (Some y))
+slot_moved v f x y p q (Ok tt) e h = let k = slot_accepted x y p q (λ s. keep done (with_file v f (Some (with_slot x p s)))) h in (k.1 ∙ ap (λ z. keep done (with_file v f (Some z))) (sym k.2), tt)
+slot_moved v f x y p q (Err g) e h = let k = slot_refused x y p q (told g) (λ s. keep done (with_file v f (Some (with_slot x p s)))) h in (k.0, given_back v f x y e k.1)

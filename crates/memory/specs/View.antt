@@ -1,11 +1,13 @@
 -- The memory as the plans speak of it.
 use Rattle.memory.specs.declared.state.Memory.{Memory}
 use Rattle.model.specs.Memory as model
-use Rattle.std.specs.Prelude.{◌≡◌, ℕ, List, Ok, Err, Result}
+use Rattle.std.specs.Prelude.{◌≡◌, ℕ, Bool, List, Ok, Err, Result}
 use Rattle.drive.specs.Faults.{Refusal}
 use Rattle.record.specs.declared.label.Label.{Label}
 use Rattle.record.specs.declared.label.LabelState.{LabelState}
-use Rattle.model.specs.declared.memory.Phase.TheVariants.{Open}
+use Rattle.model.specs.declared.memory.Phase.{Phase}
+use Rattle.model.specs.declared.memory.Phase.TheVariants.{Shut, Open, Closing}
+use Rattle.model.specs.Plans.{is_shut, is_open, is_closing}
 use Rattle.model.specs.Outcomes.{Reply, Outcome, refuse, keep}
 
 abbrev pub view : Memory → model.Memory
@@ -52,3 +54,9 @@ opened_as v l counts =
       entries = l.entries;
       trouble = l.trouble;
     }
+
+-- the phase is the one that is wanted
+abbrev pub is_phase : Phase → Phase → Bool
+is_phase Shut p = is_shut p
+is_phase Open p = is_open p
+is_phase Closing p = is_closing p

@@ -1,19 +1,16 @@
 // A volume's memory as it is attached, and the questions that it answers by itself.
 ghost use Rattle.std.specs.Prelude.{◌≡◌, ◌<◌, not, ◌&&◌, IfOk, OnOk, nat_lt};
 ghost use Rattle.drive.specs.Faults.{said};
-ghost use Rattle.memory.specs.View.{view};
+ghost use Rattle.memory.specs.View.{view, is_phase};
 ghost use Rattle.model.specs.Carried.{asked, or_refused};
 ghost use Rattle.model.specs.Memory.{attached, file_of, in_some_file};
-ghost use Rattle.model.specs.Plans.{is_shut, is_open, is_closing, is_idle, unused_file};
+ghost use Rattle.model.specs.Plans.{is_idle, unused_file};
 
 use crate::entries;
 use crate::state::Memory;
 use arrayvec::ArrayVec;
 use drive::fault::{Fault, Question};
 use model::memory::{File, MapState, Phase};
-
-// How many files a volume has.
-pub(crate) const FILES: usize = 8;
 
 impl Memory {
     // The phase is shut, the map idle, and nothing is held.
@@ -34,40 +31,20 @@ impl Memory {
         }
     }
 
-    pub fn ask_shut(&self) -> Result<(), Fault>
-        ensures { said result ≡ asked 2 (is_shut (view self.now).phase) }
+    // Is the volume in the phase that is wanted?
+    pub fn ask_phase(&self, wanted: Phase) -> Result<(), Fault>
+        ensures { said result ≡ asked 2 (is_phase wanted (view self.now).phase) }
     {
-        let Phase::Shut = self.phase else {
+        if self.phase != wanted {
             return Err(Question::Phase.refused());
-        };
-        Ok(())
-    }
-
-    pub fn ask_open(&self) -> Result<(), Fault>
-        ensures { said result ≡ asked 2 (is_open (view self.now).phase) }
-    {
-        let Phase::Open = self.phase else {
-            return Err(Question::Phase.refused());
-        };
-        Ok(())
-    }
-
-    pub fn ask_closing(&self) -> Result<(), Fault>
-        ensures { said result ≡ asked 2 (is_closing (view self.now).phase) }
-    {
-        let Phase::Closing = self.phase else {
-            return Err(Question::Phase.refused());
-        };
+        }
         Ok(())
     }
 
     pub fn is_idle(&self) -> bool
         ensures { result ≡ is_idle (view self.now).chart }
     {
-        if let MapState::Idle = self.chart {
-            return true;
-        }
-        false
+        self.chart == MapState::Idle
     }
 
     // Is the file in the table and unused?
@@ -75,13 +52,10 @@ impl Memory {
         ensures unused { said result ≡ asked 6 (unused_file (view self.now) file) }
         ensures filed { OnOk result (file < 8) }
     {
-        if file >= FILES {
-            return Err(Question::File.refused());
+        match self.files.get(file) {
+            Some(None) => Ok(()),
+            _ => Err(Question::File.refused()),
         }
-        let None = self.files[file] else {
-            return Err(Question::File.refused());
-        };
-        Ok(())
     }
 
     // Is the entry number in its limits, and in no file?
@@ -98,12 +72,9 @@ impl Memory {
         ensures filed { OnOk result (file < 8) }
         ensures numbered { IfOk result (λ x. x.entry < 3968) }
     {
-        if file >= FILES {
-            return Err(Question::File.refused());
+        match self.files.get(file) {
+            Some(Some(used)) => Ok(*used),
+            _ => Err(Question::File.refused()),
         }
-        let Some(used) = self.files[file] else {
-            return Err(Question::File.refused());
-        };
-        Ok(used)
     }
 }

@@ -11,9 +11,8 @@ ghost use Rattle.model.specs.declared.memory.Slot.TheVariants.{Empty, Nulled};
 
 use crate::entries;
 use crate::state::Memory;
-use crate::state::asking::FILES;
 use drive::fault::{Fault, Question};
-use model::memory::{File, Slot};
+use model::memory::{File, Phase, Slot};
 
 impl Memory {
     // The file holds the entry from now on.
@@ -29,7 +28,7 @@ impl Memory {
         ensures planned { deactivate_plan file (view self.old) ≡ came_to (replied done_reply result) (view self.new) }
         ensures same { UnlessAcceptedSame result (view self.old) (view self.new) }
     {
-        self.ask_open()?;
+        self.ask_phase(Phase::Open)?;
         let used = self.used_file(file)?;
         ask_at_rest(&used)?;
         self.release(file);
@@ -48,15 +47,15 @@ impl Memory {
         ensures planned { clear_plan file slot (view self.old) ≡ came_to (replied done_reply result) (view self.new) }
         ensures same { UnlessAcceptedSame result (view self.old) (view self.new) }
     {
-        self.ask_open()?;
-        if file >= FILES {
+        self.ask_phase(Phase::Open)?;
+        // An index, as get_mut of an array leaves a proof nothing of its elements.
+        if file >= self.files.len() {
             return Err(Question::File.refused());
         }
         let Some(used) = &mut self.files[file] else {
             return Err(Question::File.refused());
         };
-        entries::clear(used, slot)?;
-        Ok(())
+        entries::clear(used, slot)
     }
 
     // A page was posted for the slot of a used file; the ticket that held its address is unused from now on.

@@ -1,5 +1,5 @@
 // The stock, what the map is doing, and the volume's label as it was opened.
-ghost use Rattle.std.specs.Prelude.{◌≡◌, ◌+◌, ◌<◌, ◌≤◌, ◌&&◌, [], ◌∷◌, ◌++◌, length, IfSome, ◌==◌, slice_set};
+ghost use Rattle.std.specs.Prelude.{◌≡◌, ◌+◌, ◌<◌, ◌≤◌, ◌&&◌, [], ◌∷◌, ◌++◌, length, IfSome, ◌==◌, nat_lt, slice_set, position};
 ghost use Rattle.arrayvec.specs.ArrayVec.{array_vec_len};
 ghost use Rattle.drive.specs.Faults.{said};
 ghost use Rattle.memory.specs.View.{view, label_kept, opened_as};
@@ -17,21 +17,14 @@ use drive::fault::{Fault, Question};
 use model::memory::{MapState, Phase};
 use record::label::{Label, LabelState};
 
-// How many sections the map has.
-const SECTIONS: u8 = 3;
-
 impl Memory {
     // The lowest section that counts a free address.
     pub fn section_with_free(&self) -> Option<u8>
         ensures lowest { result ≡ counting_free 0 (view self.now).counts }
         ensures bound { IfSome result (λ k. k < 3) }
     {
-        for k in 0..SECTIONS {
-            if self.counts[usize::from(k)] > 0 {
-                return Some(k);
-            }
-        }
-        None
+        let k = lowest_counting(&self.counts)?;
+        Some(k as u8)
     }
 
     // The addresses in service.
@@ -71,10 +64,11 @@ impl Memory {
         ensures { view self.new ≡ with_stock (view self.old) (Writing k) (slice_set (view self.old).counts k count) (view self.old).service (view self.old).unsettled }
     {
         self.chart = MapState::Writing(k);
-        if k >= SECTIONS {
-            return;
+        let k = usize::from(k);
+        // An index, as get_mut of an array leaves a proof nothing of its elements.
+        if k < self.counts.len() {
+            self.counts[k] = count;
         }
-        self.counts[usize::from(k)] = count;
     }
 
     // The section is written: the unsettled addresses join those in service.
@@ -90,9 +84,9 @@ impl Memory {
     pub fn ask_idle(&self) -> Result<(), Fault>
         ensures { said result ≡ asked 15 (is_idle (view self.now).chart) }
     {
-        let MapState::Idle = self.chart else {
+        if !self.is_idle() {
             return Err(Question::Settled.refused());
-        };
+        }
         Ok(())
     }
 
@@ -146,4 +140,12 @@ impl Memory {
             trouble: self.trouble,
         }
     }
+}
+
+// The lowest section that counts a free address.
+fn lowest_counting(counts: &[u32; 3]) -> Option<usize>
+    ensures lowest { result ≡ position (λ n. nat_lt 0 n) counts.now }
+    ensures bound { IfSome result (λ k. k < 3) }
+{
+    counts.iter().position(|count| *count > 0)
 }

@@ -1,5 +1,5 @@
 // The tickets, and the addresses that they hold.
-ghost use Rattle.std.specs.Prelude.{◌≡◌, ℕ, ◌+◌, ◌<◌, ◌&&◌, Some, None, ◌==◌, nat_lt, slice_set};
+ghost use Rattle.std.specs.Prelude.{◌≡◌, ℕ, ◌+◌, ◌<◌, ◌&&◌, Some, None, ◌==◌, nat_lt, slice_set, position, count_by, is_some, is_none};
 ghost use Rattle.drive.specs.Faults.{said};
 ghost use Rattle.memory.specs.View.{view, came_to, UnlessAcceptedSame};
 ghost use Rattle.model.specs.Carried.{asked, replied};
@@ -11,9 +11,6 @@ use crate::state::Memory;
 use drive::fault::{Fault, Question};
 use model::answers::Withdrawn;
 use model::memory::{MapState, Phase};
-
-// How many tickets a volume has.
-const TICKETS: u8 = 4;
 
 // The most addresses that stock and tickets hold together.
 const MOST_HELD: usize = 32;
@@ -27,27 +24,16 @@ pub struct Ticketed {
 
 // How many places of a table are used.
 fn count_used<X>(places: &[Option<X>]) -> usize
-    ensures { result ≡ used places.now }
+    ensures { result ≡ count_by is_some places.now }
 {
-    let mut n = 0;
-    for place in places {
-        if let Some(_) = place {
-            n += 1;
-        }
-    }
-    n
+    places.iter().filter(|place| place.is_some()).count()
 }
 
 // The lowest unused ticket.
-fn lowest_unused(tickets: &[Option<u16>; 4]) -> Option<u8>
-    ensures { result ≡ unused_from 0 tickets.now }
+fn lowest_unused(tickets: &[Option<u16>]) -> Option<usize>
+    ensures { result ≡ position is_none tickets.now }
 {
-    for t in 0..TICKETS {
-        let Some(_) = tickets[usize::from(t)] else {
-            return Some(t);
-        };
-    }
-    None
+    tickets.iter().position(|ticket| ticket.is_none())
 }
 
 impl Memory {
@@ -72,40 +58,28 @@ impl Memory {
     pub fn ask_ticket(&self, ticket: u8, address: u16) -> Result<(), Fault>
         ensures { said result ≡ asked 11 (ticket_holds (view self.now) ticket address) }
     {
-        if ticket >= TICKETS {
-            return Err(Question::Grant.refused());
+        match self.tickets.get(usize::from(ticket)) {
+            Some(Some(held)) if *held == address => Ok(()),
+            _ => Err(Question::Grant.refused()),
         }
-        let Some(held) = self.tickets[usize::from(ticket)] else {
-            return Err(Question::Grant.refused());
-        };
-        if held != address {
-            return Err(Question::Grant.refused());
-        }
-        Ok(())
     }
 
     pub fn withdraw(&mut self) -> Result<Withdrawn<Ticketed>, Fault>
         ensures planned { withdraw_plan (view self.old) ≡ came_to (replied (withdrawn_reply (λ h. h.ticket) (λ h. h.address)) result) (view self.new) }
         ensures same { UnlessAcceptedSame result (view self.old) (view self.new) }
     {
-        self.ask_open()?;
+        self.ask_phase(Phase::Open)?;
         let Some(ticket) = lowest_unused(&self.tickets) else {
             return Err(Question::Ticket.refused());
         };
         let Some(address) = self.service.pop_at(0) else {
             return Ok(self.shortage());
         };
-        self.fill_ticket(ticket, address);
-        Ok(Withdrawn::Granted(Ticketed { ticket, address }))
-    }
-
-    // The ticket holds the address from now on.
-    fn fill_ticket(&mut self, ticket: u8, address: u16)
-        requires ticketed { ticket < 4 }
-        requires room { held (view self.old) < 32 }
-        ensures { view self.new ≡ with_tickets (view self.old) (slice_set (view self.old).tickets ticket (Some address)) }
-    {
-        self.tickets[usize::from(ticket)] = Some(address);
+        self.tickets[ticket] = Some(address);
+        Ok(Withdrawn::Granted(Ticketed {
+            ticket: ticket as u8,
+            address,
+        }))
     }
 
     // What a withdraw answers while nothing is in service.
@@ -143,7 +117,7 @@ impl Memory {
         ensures planned { close_plan (view self.old) ≡ came_to (replied done_reply result) (view self.new) }
         ensures same { UnlessAcceptedSame result (view self.old) (view self.new) }
     {
-        self.ask_open()?;
+        self.ask_phase(Phase::Open)?;
         self.ask_unused_tables()?;
         self.phase = Phase::Closing;
         Ok(())

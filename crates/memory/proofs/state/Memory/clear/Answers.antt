@@ -2,29 +2,28 @@ use Rattle.std.proofs.Common.{◌<◌, Some, None, sym, refl, ap, ◌∙◌, ari
 use Rattle.std.proofs.lemmas.Result.{err_from_is_err_and}
 use Rattle.std.proofs.lemmas.List.{get_or_past, length-set}
 use Rattle.drive.specs.Faults.{told}
-use Rattle.model.specs.Memory.{with_file}
-use Rattle.model.specs.Outcomes.{keep, refuse, done}
+use Rattle.model.specs.Outcomes.{refuse}
 use Rattle.model.specs.Plans.{clear_plan}
 use Rattle.model.proofs.CarriedLaws.{asked_yes, asked_no, found_some, found_none}
 use Rattle.memory.specs.Bounds.{number_in}
 use Rattle.memory.specs.View.{view}
 use Rattle.memory.proofs.StateLaws.{numbered_set}
-use Rattle.memory.proofs.TableLaws.{unchanged_file, given_back, slot_refused, slot_accepted}
+use Rattle.memory.proofs.TableLaws.{unchanged_file, slot_moved}
 use Rattle.memory.proofs.state.Memory.clear.Goals as goal
 
-pub returns-in_err-ask_open : goal.returns-in_err-ask_open
+pub returns-in_err-ask_phase : goal.returns-in_err-ask_phase
 unfolding clear_plan
-returns-in_err-ask_open c =
+returns-in_err-ask_phase c =
     let p = err_from_is_err_and c.from_residual.result c.from_residual.ensures.1 in
-    rw (p.1, p.2) (record { planned = asked_no _ _ _ _ c.in_err-ask_open.ensures; same = refl })
+    rw (p.1, p.2) (record { planned = asked_no _ _ _ _ c.in_err-ask_phase.ensures; same = refl })
 
-pub returns-then-file-ge-FILES : goal.returns-then-file-ge-FILES
+pub returns-then-file-ge8 : goal.returns-then-file-ge8
 unfolding clear_plan
-returns-then-file-ge-FILES c =
+returns-then-file-ge8 c =
     let v = c.args.self.now in
     let none = get_or_past v.files c.args.file None (omega (arith, v.eight)) in
     record {
-      planned = asked_yes _ _ _ c.in_ok-ask_open.ensures ∙ (found_none _ _ _ (sym none) ∙ ap (λ f. refuse (told f)) (sym c.refused.ensures));
+      planned = asked_yes _ _ _ c.in_ok-ask_phase.ensures ∙ (found_none _ _ _ (sym none) ∙ ap (λ f. refuse (told f)) (sym c.refused.ensures));
       same = refl;
     }
 
@@ -32,7 +31,7 @@ pub returns-in_default : goal.returns-in_default
 unfolding clear_plan
 returns-in_default c =
     record {
-      planned = asked_yes _ _ _ c.in_ok-ask_open.ensures ∙ (found_none _ _ _ (sym c.in_default.is) ∙ ap (λ f. refuse (told f)) (sym c.refused-in_default.ensures));
+      planned = asked_yes _ _ _ c.in_ok-ask_phase.ensures ∙ (found_none _ _ _ (sym c.in_default.is) ∙ ap (λ f. refuse (told f)) (sym c.refused-in_default.ensures));
       same = unchanged_file (view c.args.self.now) c.args.file;
     }
 
@@ -43,25 +42,9 @@ invariant_of-self-2 c =
     let before : number_in (Some c.in-Some.used) < 3968 = rw c.in-Some.is at (v.numbered i) in
     record { few = v.few; three = v.three; four = v.four; eight = length-set v.files i _ ∙ v.eight; settled = v.settled; limited = v.limited; numbered = numbered_set v.files i _ v.numbered (omega (arith, before, c.clear.ensures.kept)) }
 
-pub returns-in_err-clear : goal.returns-in_err-clear
-unfolding clear_plan
-returns-in_err-clear c =
-    let p = err_from_is_err_and c.from_residual-in_err-clear.result c.from_residual-in_err-clear.ensures.1 in
-    let v = view c.args.self.now in
-    let k = slot_refused c.in-Some.used c.clear.new.file c.args.slot _ _ _ c.in_err-clear.ensures.changed in
-    rw (p.1, p.2) (record {
-      planned = asked_yes _ _ _ c.in_ok-ask_open.ensures ∙ (found_some _ _ _ _ (sym c.in-Some.is) ∙ k.0);
-      same = given_back v c.args.file c.in-Some.used c.clear.new.file c.in-Some.is k.1;
-    })
-
 pub returns : goal.returns
 unfolding clear_plan
 returns c =
     let v = view c.args.self.now in
-    let k = slot_accepted c.in-Some.used c.clear.new.file c.args.slot _ _ c.in_ok-clear.ensures.changed in
-    record {
-      planned =
-          asked_yes _ _ _ c.in_ok-ask_open.ensures ∙ (found_some _ _ _ _ (sym c.in-Some.is) ∙ (k.1
-          ∙ ap (λ y. keep done (with_file v c.args.file (Some y))) (sym k.2)));
-      same = tt;
-    }
+    let k = slot_moved v c.args.file c.in-Some.used c.clear.new.file c.args.slot _ c.clear.result c.in-Some.is c.clear.ensures.changed in
+    record { planned = asked_yes _ _ _ c.in_ok-ask_phase.ensures ∙ (found_some _ _ _ _ (sym c.in-Some.is) ∙ k.0); same = k.1 }
