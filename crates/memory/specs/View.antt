@@ -1,5 +1,5 @@
 -- The memory as the plans speak of it.
-use Rattle.memory.specs.declared.state.Memory.{Memory}
+use Rattle.memory.specs.declared.state.Memory.TheInside.{Inside}
 use Rattle.model.specs.Memory as model
 use Rattle.std.specs.Prelude.{◌≡◌, ℕ, Bool, List, Ok, Err, Result}
 use Rattle.drive.specs.Faults.{Refusal}
@@ -10,8 +10,8 @@ use Rattle.model.specs.declared.memory.Phase.TheVariants.{Shut, Open, Closing}
 use Rattle.model.specs.Plans.{is_shut, is_open, is_closing}
 use Rattle.model.specs.Outcomes.{Reply, Outcome, refuse, keep}
 
-abbrev pub view : Memory → model.Memory
-view v =
+abbrev pub kept : Inside → model.Memory
+kept v =
     record {
       phase = v.phase;
       chart = v.chart;

@@ -1,11 +1,7 @@
 // What a volume keeps in memory.
-ghost use Rattle.std.specs.Prelude.{◌≡◌, ℕ, ◌+◌, ◌<◌, ◌≤◌, length, None, slice_index_or};
-ghost use Rattle.arrayvec.specs.ArrayVec.{array_vec_len};
-ghost use Rattle.memory.specs.Bounds.{awaited, number_in};
-ghost use Rattle.model.specs.Memory.{used};
-
 use arrayvec::ArrayVec;
 use model::memory::{File, MapState, Phase};
+use std::marker::Model;
 
 pub mod asking;
 pub mod files;
@@ -26,11 +22,17 @@ pub struct Memory {
     id: u32,
     entries: u16,
     trouble: u32,
-    ghost few: { array_vec_len service + array_vec_len unsettled + used tickets ≤ 32 },
-    ghost three: { length counts ≡ 3 },
-    ghost four: { length tickets ≡ 4 },
-    ghost eight: { length files ≡ 8 },
-    ghost settled: { array_vec_len unsettled ≤ awaited chart },
-    ghost limited: { entries ≤ 3968 },
-    ghost numbered: { (k : ℕ) → number_in (slice_index_or files k None) < 3968 },
+}
+
+impl Model for Memory {
+    ghost use Rattle.model.specs.Memory as model;
+
+    ghost Value = { model.Memory };
+
+    ghost use Rattle.memory.specs.Bounds.{Sound};
+    ghost use Rattle.memory.specs.View.{kept};
+
+    ghost view = { kept };
+
+    ghost invariant = { λ m. Sound (kept m) };
 }

@@ -1,7 +1,7 @@
 // A volume's memory as it is attached, and the questions that it answers by itself.
 ghost use Rattle.std.specs.Prelude.{◌≡◌, ◌<◌, not, ◌&&◌, IfOk, OnOk, nat_lt};
 ghost use Rattle.drive.specs.Faults.{said};
-ghost use Rattle.memory.specs.View.{view, is_phase};
+ghost use Rattle.memory.specs.View.{is_phase};
 ghost use Rattle.model.specs.Carried.{asked, or_refused};
 ghost use Rattle.model.specs.Memory.{attached, file_of, in_some_file};
 ghost use Rattle.model.specs.Plans.{is_idle, unused_file};
@@ -15,7 +15,7 @@ use model::memory::{File, MapState, Phase};
 impl Memory {
     // The phase is shut, the map idle, and nothing is held.
     pub fn attached() -> Memory
-        ensures { view result ≡ attached }
+        ensures { result ≡ attached }
     {
         Memory {
             phase: Phase::Shut,
@@ -33,7 +33,7 @@ impl Memory {
 
     // Is the volume in the phase that is wanted?
     pub fn ask_phase(&self, wanted: Phase) -> Result<(), Fault>
-        ensures { said result ≡ asked 2 (is_phase wanted (view self.now).phase) }
+        ensures { said result ≡ asked 2 (is_phase wanted self.now.phase) }
     {
         if self.phase != wanted {
             return Err(Question::Phase.refused());
@@ -42,14 +42,14 @@ impl Memory {
     }
 
     pub fn is_idle(&self) -> bool
-        ensures { result ≡ is_idle (view self.now).chart }
+        ensures { result ≡ is_idle self.now.chart }
     {
         self.chart == MapState::Idle
     }
 
     // Is the file in the table and unused?
     pub fn ask_unused(&self, file: usize) -> Result<(), Fault>
-        ensures unused { said result ≡ asked 6 (unused_file (view self.now) file) }
+        ensures unused { said result ≡ asked 6 (unused_file self.now file) }
         ensures filed { OnOk result (file < 8) }
     {
         match self.files.get(file) {
@@ -60,7 +60,7 @@ impl Memory {
 
     // Is the entry number in its limits, and in no file?
     pub fn ask_number(&self, number: u16) -> Result<(), Fault>
-        ensures taken { said result ≡ asked 7 (nat_lt number (view self.now).entries && not (in_some_file (view self.now).files number)) }
+        ensures taken { said result ≡ asked 7 (nat_lt number self.now.entries && not (in_some_file self.now.files number)) }
         ensures bound { OnOk result (number < 3968) }
     {
         entries::ask_number(&self.files, self.entries, number)
@@ -68,7 +68,7 @@ impl Memory {
 
     // The file, where it is used.
     pub fn used_file(&self, file: usize) -> Result<File, Fault>
-        ensures found { said result ≡ or_refused 6 (file_of (view self.now) file) }
+        ensures found { said result ≡ or_refused 6 (file_of self.now file) }
         ensures filed { OnOk result (file < 8) }
         ensures numbered { IfOk result (λ x. x.entry < 3968) }
     {

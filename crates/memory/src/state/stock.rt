@@ -2,7 +2,8 @@
 ghost use Rattle.std.specs.Prelude.{◌≡◌, ◌+◌, ◌<◌, ◌≤◌, ◌&&◌, [], ◌∷◌, ◌++◌, length, IfSome, ◌==◌, nat_lt, slice_set, position};
 ghost use Rattle.arrayvec.specs.ArrayVec.{array_vec_len};
 ghost use Rattle.drive.specs.Faults.{said};
-ghost use Rattle.memory.specs.View.{view, label_kept, opened_as};
+ghost use Rattle.memory.specs.Bounds.{Sound};
+ghost use Rattle.memory.specs.View.{label_kept, opened_as};
 ghost use Rattle.model.specs.Carried.{asked};
 ghost use Rattle.model.specs.Memory.{with_phase, with_stock, held};
 ghost use Rattle.model.specs.Plans.{is_idle};
@@ -20,7 +21,7 @@ use record::label::{Label, LabelState};
 impl Memory {
     // The lowest section that counts a free address.
     pub fn section_with_free(&self) -> Option<u8>
-        ensures lowest { result ≡ counting_free 0 (view self.now).counts }
+        ensures lowest { result ≡ counting_free 0 self.now.counts }
         ensures bound { IfSome result (λ k. k < 3) }
     {
         let k = lowest_counting(&self.counts)?;
@@ -29,23 +30,24 @@ impl Memory {
 
     // The addresses in service.
     pub fn service(&self) -> &[u16]
-        ensures value { result.now ≡ (view self.now).service }
+        ensures value { result.now ≡ self.now.service }
         ensures few { length result.now ≤ 32 }
+        ensures sound { Sound self.now }
     {
         &self.service
     }
 
     // The section that is being written.
     pub fn chart(&self) -> MapState
-        ensures { result ≡ (view self.now).chart }
+        ensures { result ≡ self.now.chart }
     {
         self.chart
     }
 
     // Section `k` is being written with so many free addresses; those taken are unsettled until it is.
     pub fn take(&mut self, k: u8, count: u32, taken: &[u16])
-        requires { held (view self.old) + length taken.now ≤ 32 }
-        ensures { view self.new ≡ with_stock (view self.old) (Writing k) (slice_set (view self.old).counts k count) (view self.old).service ((view self.old).unsettled ++ taken.now) }
+        requires { held self.old + length taken.now ≤ 32 }
+        ensures { self.new ≡ with_stock self.old (Writing k) (slice_set self.old.counts k count) self.old.service (self.old.unsettled ++ taken.now) }
     {
         self.write(k, count);
         append(&mut self.unsettled, taken);
@@ -53,15 +55,15 @@ impl Memory {
 
     // Section `k` is being written with so many free addresses; those left are still in service.
     pub fn give(&mut self, k: u8, count: u32, left: ArrayVec<u16, 32>)
-        requires { array_vec_len left ≤ length (view self.old).service }
-        ensures { view self.new ≡ with_stock (view self.old) (Writing k) (slice_set (view self.old).counts k count) left.items (view self.old).unsettled }
+        requires { array_vec_len left ≤ length self.old.service }
+        ensures { self.new ≡ with_stock self.old (Writing k) (slice_set self.old.counts k count) left.items self.old.unsettled }
     {
         self.service = left;
         self.write(k, count);
     }
 
     fn write(&mut self, k: u8, count: u32)
-        ensures { view self.new ≡ with_stock (view self.old) (Writing k) (slice_set (view self.old).counts k count) (view self.old).service (view self.old).unsettled }
+        ensures { self.new ≡ with_stock self.old (Writing k) (slice_set self.old.counts k count) self.old.service self.old.unsettled }
     {
         self.chart = MapState::Writing(k);
         let k = usize::from(k);
@@ -73,7 +75,7 @@ impl Memory {
 
     // The section is written: the unsettled addresses join those in service.
     pub fn settle(&mut self)
-        ensures { view self.new ≡ with_stock (view self.old) Idle (view self.old).counts ((view self.old).service ++ (view self.old).unsettled) [] }
+        ensures { self.new ≡ with_stock self.old Idle self.old.counts (self.old.service ++ self.old.unsettled) [] }
     {
         append(&mut self.service, &self.unsettled);
         self.unsettled.clear();
@@ -82,7 +84,7 @@ impl Memory {
 
     // Is the map idle?
     pub fn ask_idle(&self) -> Result<(), Fault>
-        ensures { said result ≡ asked 15 (is_idle (view self.now).chart) }
+        ensures { said result ≡ asked 15 (is_idle self.now.chart) }
     {
         if !self.is_idle() {
             return Err(Question::Settled.refused());
@@ -92,7 +94,7 @@ impl Memory {
 
     // Is the map idle, the stock empty, and nothing outstanding?
     pub fn ask_settled(&self, owed: usize) -> Result<(), Fault>
-        ensures { said result ≡ asked 15 (is_idle (view self.now).chart && (length (view self.now).service + length (view self.now).unsettled == 0 && owed == 0)) }
+        ensures { said result ≡ asked 15 (is_idle self.now.chart && (length self.now.service + length self.now.unsettled == 0 && owed == 0)) }
     {
         self.ask_idle()?;
         if self.service.len() + self.unsettled.len() != 0 || owed != 0 {
@@ -104,7 +106,7 @@ impl Memory {
     // The volume is open, under this label and with these counts of free addresses.
     pub fn open(&mut self, label: &Label, counts: [u32; 3])
         requires { label.now.entries ≤ 3968 }
-        ensures { view self.new ≡ opened_as (view self.old) label.now counts }
+        ensures { self.new ≡ opened_as self.old label.now counts }
     {
         self.counts = counts;
         self.id = label.id;
@@ -115,21 +117,21 @@ impl Memory {
 
     // The volume is shut.
     pub fn shut(&mut self)
-        ensures { view self.new ≡ with_phase (view self.old) Shut }
+        ensures { self.new ≡ with_phase self.old Shut }
     {
         self.phase = Phase::Shut;
     }
 
     // The id of the opened volume.
     pub fn id(&self) -> u32
-        ensures { result ≡ (view self.now).id }
+        ensures { result ≡ self.now.id }
     {
         self.id
     }
 
     // The label of the opened volume of so many records, in some state.
     pub fn label(&self, records: u16, state: LabelState) -> Label
-        ensures kept { result ≡ label_kept (view self.now) records state }
+        ensures kept { result ≡ label_kept self.now records state }
         ensures few { result.entries ≤ 3968 }
     {
         Label {

@@ -1,7 +1,7 @@
 // The tickets, and the addresses that they hold.
-ghost use Rattle.std.specs.Prelude.{◌≡◌, ℕ, ◌+◌, ◌<◌, ◌&&◌, Some, None, ◌==◌, nat_lt, slice_set, position, count_by, is_some, is_none};
+ghost use Rattle.std.specs.Prelude.{◌≡◌, ℕ, ◌+◌, ◌<◌, ◌&&◌, Some, None, ◌==◌, nat_lt, OnOk, slice_set, position, count_by, is_some, is_none};
 ghost use Rattle.drive.specs.Faults.{said};
-ghost use Rattle.memory.specs.View.{view, came_to, UnlessAcceptedSame};
+ghost use Rattle.memory.specs.View.{came_to, UnlessAcceptedSame};
 ghost use Rattle.model.specs.Carried.{asked, replied};
 ghost use Rattle.model.specs.Memory.{used, held, unused_from, ticket_holds, with_tickets};
 ghost use Rattle.model.specs.Plans.{withdraw_plan, deposit_plan, close_plan, shortage};
@@ -39,14 +39,14 @@ fn lowest_unused(tickets: &[Option<u16>]) -> Option<usize>
 impl Memory {
     // How many addresses the stock and the tickets hold.
     fn held(&self) -> usize
-        ensures { result ≡ held (view self.now) }
+        ensures { result ≡ held self.now }
     {
         self.service.len() + self.unsettled.len() + count_used(&self.tickets)
     }
 
     // Is there room for one more address?
     pub fn ask_room(&self) -> Result<(), Fault>
-        ensures { said result ≡ asked 13 (nat_lt (held (view self.now)) 32) }
+        ensures { said result ≡ asked 13 (nat_lt (held self.now) 32) }
     {
         if self.held() >= MOST_HELD {
             return Err(Question::Room.refused());
@@ -56,7 +56,8 @@ impl Memory {
 
     // Does the ticket hold the address?
     pub fn ask_ticket(&self, ticket: u8, address: u16) -> Result<(), Fault>
-        ensures { said result ≡ asked 11 (ticket_holds (view self.now) ticket address) }
+        ensures held { said result ≡ asked 11 (ticket_holds self.now ticket address) }
+        ensures ticketed { OnOk result (ticket < 4) }
     {
         match self.tickets.get(usize::from(ticket)) {
             Some(Some(held)) if *held == address => Ok(()),
@@ -65,8 +66,8 @@ impl Memory {
     }
 
     pub fn withdraw(&mut self) -> Result<Withdrawn<Ticketed>, Fault>
-        ensures planned { withdraw_plan (view self.old) ≡ came_to (replied (withdrawn_reply (λ h. h.ticket) (λ h. h.address)) result) (view self.new) }
-        ensures same { UnlessAcceptedSame result (view self.old) (view self.new) }
+        ensures planned { withdraw_plan self.old ≡ came_to (replied (withdrawn_reply (λ h. h.ticket) (λ h. h.address)) result) self.new }
+        ensures same { UnlessAcceptedSame result self.old self.new }
     {
         self.ask_phase(Phase::Open)?;
         let Some(ticket) = lowest_unused(&self.tickets) else {
@@ -84,7 +85,7 @@ impl Memory {
 
     // What a withdraw answers while nothing is in service.
     fn shortage(&self) -> Withdrawn<Ticketed>
-        ensures { withdrawn_reply (λ h. h.ticket) (λ h. h.address) result ≡ shortage (view self.now) }
+        ensures { withdrawn_reply (λ h. h.ticket) (λ h. h.address) result ≡ shortage self.now }
     {
         if let MapState::Writing(_) = self.chart {
             return Withdrawn::Wait;
@@ -96,11 +97,11 @@ impl Memory {
     }
 
     pub fn deposit(&mut self, ticket: u8, address: u16) -> Result<(), Fault>
-        ensures planned { deposit_plan ticket address (view self.old) ≡ came_to (replied done_reply result) (view self.new) }
-        ensures same { UnlessAcceptedSame result (view self.old) (view self.new) }
+        ensures planned { deposit_plan ticket address self.old ≡ came_to (replied done_reply result) self.new }
+        ensures same { UnlessAcceptedSame result self.old self.new }
     {
         self.ask_ticket(ticket, address)?;
-        self.free_ticket(ticket);
+        self.tickets[usize::from(ticket)] = None;
         self.service.push(address);
         Ok(())
     }
@@ -108,14 +109,14 @@ impl Memory {
     // The ticket is unused from now on.
     pub(crate) fn free_ticket(&mut self, ticket: u8)
         requires { ticket < 4 }
-        ensures { view self.new ≡ with_tickets (view self.old) (slice_set (view self.old).tickets ticket None) }
+        ensures { self.new ≡ with_tickets self.old (slice_set self.old.tickets ticket None) }
     {
         self.tickets[usize::from(ticket)] = None;
     }
 
     pub fn close(&mut self) -> Result<(), Fault>
-        ensures planned { close_plan (view self.old) ≡ came_to (replied done_reply result) (view self.new) }
-        ensures same { UnlessAcceptedSame result (view self.old) (view self.new) }
+        ensures planned { close_plan self.old ≡ came_to (replied done_reply result) self.new }
+        ensures same { UnlessAcceptedSame result self.old self.new }
     {
         self.ask_phase(Phase::Open)?;
         self.ask_unused_tables()?;
@@ -125,7 +126,7 @@ impl Memory {
 
     // Are all files and tickets unused?
     fn ask_unused_tables(&self) -> Result<(), Fault>
-        ensures { said result ≡ asked 14 (used (view self.now).files == 0 && used (view self.now).tickets == 0) }
+        ensures { said result ≡ asked 14 (used self.now.files == 0 && used self.now.tickets == 0) }
     {
         if count_used(&self.files) != 0 || count_used(&self.tickets) != 0 {
             return Err(Question::AtRest.refused());

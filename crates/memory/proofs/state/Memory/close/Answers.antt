@@ -1,4 +1,7 @@
-use Rattle.std.proofs.Common.{refl, ◌∙◌}
+use Rattle.std.proofs.Common.{sym, refl, ap, ◌∙◌}
+use Rattle.model.specs.declared.memory.Phase.TheVariants.{Closing}
+use Rattle.model.specs.Memory.{with_phase}
+use Rattle.model.specs.Outcomes.{keep, done}
 use Rattle.std.proofs.lemmas.Result.{err_from_is_err_and}
 use Rattle.model.specs.Plans.{close_plan}
 use Rattle.model.proofs.CarriedLaws.{asked_yes, asked_no}
@@ -22,4 +25,9 @@ returns-in_err-ask_unused_tables c =
 pub returns : goal.returns
 unfolding close_plan
 returns c =
-    record { planned = asked_yes _ _ _ c.in_ok-ask_phase.ensures ∙ asked_yes _ _ _ c.in_ok-ask_unused_tables.ensures; same = tt }
+    record {
+      planned =
+          asked_yes _ _ _ c.in_ok-ask_phase.ensures ∙ (asked_yes _ _ _ c.in_ok-ask_unused_tables.ensures
+          ∙ ap (λ m. keep done (with_phase m Closing)) (sym c.self.view_is));
+      same = tt;
+    }

@@ -5,5 +5,6 @@ use Rattle.memory.proofs.state.Memory.hold.Goals as goal
 
 pub invariant_of-self : goal.invariant_of-self
 invariant_of-self c =
-    let v = c.args.self.now in
-    record { few = v.few; three = v.three; four = v.four; eight = length-set v.files c.args.file _ ∙ v.eight; settled = v.settled; limited = v.limited; numbered = numbered_set v.files c.args.file _ v.numbered c.requires.numbered }
+    let m = c.self.inside in
+    let i = c.self.invariant in
+    record { few = i.few; three = i.three; four = i.four; eight = length-set m.files c.args.file _ ∙ i.eight; settled = i.settled; limited = i.limited; numbered = numbered_set m.files c.args.file _ i.numbered c.requires.numbered }
