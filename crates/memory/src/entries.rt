@@ -16,6 +16,7 @@ use record::entry::Entry;
 const FIRST_ENTRY: u16 = 8;
 
 // Is the entry number below the number of entries, and in no file?
+#[tactic(auto, using(crate::proofs::TableLaws::in_some))]
 pub fn ask_number(files: &[Option<File>; 8], entries: u16, number: u16) -> Result<(), Fault>
     ensures taken { said result ≡ asked 7 (nat_lt number entries && not (in_some_file files.now number)) }
     ensures below { OnOk result (number < entries) }

@@ -38,6 +38,7 @@ fn lowest_unused(tickets: &[Option<u16>]) -> Option<usize>
 
 impl Memory {
     // How many addresses the stock and the tickets hold.
+    #[tactic(auto, using(crate::proofs::StateLaws::used_counts))]
     fn held(&self) -> usize
         ensures { result ≡ held self.now }
     {
@@ -125,6 +126,7 @@ impl Memory {
     }
 
     // Are all files and tickets unused?
+    #[tactic(auto, using(crate::proofs::StateLaws::used_counts))]
     fn ask_unused_tables(&self) -> Result<(), Fault>
         ensures { said result ≡ asked 14 (used self.now.files == 0 && used self.now.tickets == 0) }
     {
