@@ -10,6 +10,7 @@ use Rattle.model.specs.declared.memory.Phase.TheVariants.{Shut, Open, Closing}
 use Rattle.model.specs.Plans.{is_shut, is_open, is_closing}
 use Rattle.model.specs.Outcomes.{Reply, Outcome, refuse, keep}
 
+-- what the fields stand for
 abbrev pub kept : Inside → model.Memory
 kept v =
     record {

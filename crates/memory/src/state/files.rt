@@ -24,6 +24,7 @@ impl Memory {
         self.files[file] = Some(taken);
     }
 
+    #[tactic(auto, unfolding(model::specs::Plans::deactivate_plan, model::specs::Outcomes::ask, model::specs::Outcomes::need))]
     pub fn deactivate(&mut self, file: usize) -> Result<(), Fault>
         ensures planned { deactivate_plan file self.old ≡ came_to (replied done_reply result) self.new }
         ensures same { UnlessAcceptedSame result self.old self.new }
@@ -43,6 +44,7 @@ impl Memory {
         self.files[file] = None;
     }
 
+    #[tactic(auto, unfolding(model::specs::Plans::clear_plan, model::specs::Outcomes::ask, model::specs::Outcomes::need))]
     pub fn clear(&mut self, file: usize, slot: usize) -> Result<(), Fault>
         ensures planned { clear_plan file slot self.old ≡ came_to (replied done_reply result) self.new }
         ensures same { UnlessAcceptedSame result self.old self.new }

@@ -66,6 +66,7 @@ impl Memory {
         }
     }
 
+    #[tactic(auto, using(crate::proofs::StateLaws::first_unused, crate::proofs::StateLaws::withdrawing_some, crate::proofs::StateLaws::withdrawing_none), unfolding(model::specs::Plans::withdraw_plan, model::specs::Outcomes::ask, model::specs::Outcomes::need))]
     pub fn withdraw(&mut self) -> Result<Withdrawn<Ticketed>, Fault>
         ensures planned { withdraw_plan self.old ≡ came_to (replied (withdrawn_reply (λ h. h.ticket) (λ h. h.address)) result) self.new }
         ensures same { UnlessAcceptedSame result self.old self.new }
@@ -97,6 +98,7 @@ impl Memory {
         }
     }
 
+    #[tactic(auto, unfolding(model::specs::Plans::deposit_plan, model::specs::Outcomes::ask))]
     pub fn deposit(&mut self, ticket: u8, address: u16) -> Result<(), Fault>
         ensures planned { deposit_plan ticket address self.old ≡ came_to (replied done_reply result) self.new }
         ensures same { UnlessAcceptedSame result self.old self.new }
@@ -115,6 +117,7 @@ impl Memory {
         self.tickets[usize::from(ticket)] = None;
     }
 
+    #[tactic(auto, unfolding(model::specs::Plans::close_plan, model::specs::Outcomes::ask))]
     pub fn close(&mut self) -> Result<(), Fault>
         ensures planned { close_plan self.old ≡ came_to (replied done_reply result) self.new }
         ensures same { UnlessAcceptedSame result self.old self.new }
