@@ -20,6 +20,7 @@ use record::label::{Label, LabelState};
 
 impl Memory {
     // The lowest section that counts a free address.
+    #[tactic(auto, using(crate::proofs::StateLaws::first_counting))]
     pub fn section_with_free(&self) -> Option<u8>
         ensures lowest { result ≡ counting_free 0 self.now.counts }
         ensures bound { IfSome result (λ k. k < 3) }

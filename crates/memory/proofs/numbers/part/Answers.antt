@@ -1,5 +1,5 @@
 use Rattle.std.proofs.Common.{◌≡◌, ◌+◌, ◌-◌, false, eqb, ◌⊎◌, length, get_or, drop, sym, ap, ◌∙◌, inl, inr, arith}
-use Rattle.std.proofs.lemmas.List.{drop_more, drop_all, append-nil}
+use Rattle.std.proofs.lemmas.List.{drop_more}
 use Rattle.model.specs.Stock.{cover}
 use Rattle.arrayvec.specs.ArrayVec.{array_vec_len}
 use Rattle.memory.proofs.NumberLaws.{given_in, given_out, stay_in, stay_out}
@@ -45,12 +45,3 @@ loop-a-preserved g c =
           let q = stay_out k n a K rest t in
           (omega (arith, w.push-else-len-most.ensures.len), cc, cc)
     ]
-
-pub returns : goal.returns
-returns g c =
-    let d = drop_all c.loop-a.a-index c.args.numbers.now c.loop-a-test.false in
-    let f = append-nil (c.loop-a.given.items) in
-    let k = append-nil (c.loop-a.staying.items) in
-    let v1 = rw d at c.loop-a.invariant.1 in
-    let v2 = rw d at c.loop-a.invariant.2 in
-    record { given = cc; staying = cc; len = omega arith }
