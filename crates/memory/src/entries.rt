@@ -144,6 +144,7 @@ pub fn load(shown: &Entry) -> [Slot; 64]
     shown.slots.map(loaded)
 }
 
+// No `From<u16>`: a number is a slot only where an entry has it.
 fn loaded(a: u16) -> Slot
     ensures { result ≡ loaded a }
 {

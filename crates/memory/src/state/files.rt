@@ -71,7 +71,8 @@ impl Memory {
         self.put_slot(file, slot, Slot::Nulled(address));
     }
 
-    // The slot of a used file is in another case from now on.
+    // The slot of a used file is in another case from now on. The file is named by its number, and lent to no caller for
+    // writing: a write could break the bound on the number of its entry.
     fn put_slot(&mut self, file: usize, slot: usize, moved: Slot)
         requires filed { file < 8 }
         requires slotted { slot < 64 }
