@@ -1,5 +1,5 @@
 -- What the calls on the map come to.
-use Rattle.std.proofs.Common.{◌≡◌, ℕ, ◌-◌, ◌<◌, ◌≤◌, Bool, true, false, eqb, List, [], ◌∷◌, ◌++◌, length, Some, None, Ok, Err, Option, Result, sym, ap, ◌∙◌, arith}
+use Rattle.std.proofs.Common.{◌≡◌, ℕ, ◌-◌, ◌<◌, ◌≤◌, Bool, true, false, eqb, List, [], ◌∷◌, ◌++◌, length, Some, None, Ok, Err, Option, Result, slice_get, sym, refl, ap, ◌∙◌, arith}
 use Rattle.std.proofs.lemmas.Bool.{lt-ltb, le-ltb, cond-true, cond-false}
 use Rattle.drive.specs.Answers.{and_then}
 use Rattle.drive.specs.Faults.{Refusal}
@@ -19,6 +19,10 @@ pub used_within : {X : Type 0} (ts : List (Option X)) → used ts ≤ length ts
 used_within [] = omega arith
 used_within (None ∷ ts) = let i = used_within ts in omega arith
 used_within (Some x ∷ ts) = let i = used_within ts in omega arith
+
+pub first_oldest : (xs : List ℕ) → slice_get xs 0 ≡ oldest xs
+first_oldest [] = refl
+first_oldest (x ∷ xs) = refl
 
 -- ---- the section that is posted
 

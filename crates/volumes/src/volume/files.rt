@@ -10,7 +10,7 @@ use crate::volume::Volume;
 use drive::device::Drive;
 use drive::fault::Fault;
 use memory::entries;
-use model::memory::{File, Slot};
+use model::memory::{File, Phase, Slot};
 use posting::asking::ask_page;
 use posting::entries::{moved_slots, post_entry};
 use reading::work::Work;
@@ -43,7 +43,7 @@ impl<D: Drive> Volume<D> {
         ensures { CarriesOut (rules D.Of.Kind.depth D.Of.Kind.life) (call.create (length page.old) file number meter) (volume_of D.meaning self.old) (volume_of D.meaning self.new) (replied done_reply result) }
     {
         ask_page(page.len())?;
-        self.memory.ask_open()?;
+        self.memory.ask_phase(Phase::Open)?;
         self.memory.ask_unused(file)?;
         self.memory.ask_number(number)?;
         entries::ask_meter(meter)?;
@@ -82,7 +82,7 @@ impl<D: Drive> Volume<D> {
         ensures { CarriesOut (rules D.Of.Kind.depth D.Of.Kind.life) (call.activate (length page.old) file number) (volume_of D.meaning self.old) (volume_of D.meaning self.new) (replied done_reply result) }
     {
         ask_page(page.len())?;
-        self.memory.ask_open()?;
+        self.memory.ask_phase(Phase::Open)?;
         self.memory.ask_unused(file)?;
         self.memory.ask_number(number)?;
         let shown = self.shown_entry(number, page);
@@ -110,7 +110,7 @@ impl<D: Drive> Volume<D> {
         ensures { CarriesOut (rules D.Of.Kind.depth D.Of.Kind.life) (call.update (length page.old) file) (volume_of D.meaning self.old) (volume_of D.meaning self.new) (replied done_reply result) }
     {
         ask_page(page.len())?;
-        self.memory.ask_open()?;
+        self.memory.ask_phase(Phase::Open)?;
         let used = self.memory.used_file(file)?;
         self.ask_settled(used.entry)?;
         let moved = moved_slots(&self.drive, &used.slots);

@@ -18,8 +18,9 @@ use crate::volume::Volume;
 use drive::device::Drive;
 use drive::fault::Fault;
 use memory::map::{give_back, take_lowest};
+use memory::numbers::{Parted, part};
 use model::answers::{Balanced, Drained};
-use model::memory::MapState;
+use model::memory::{MapState, Phase};
 use posting::asking::ask_page;
 use posting::sections::{ENOUGH, covering, shown_section, wanted};
 use reading::layout::{FIRST_SECTION, SUM_START};
@@ -43,7 +44,7 @@ impl<D: Drive> Volume<D> {
     {
         let work = Work(page);
         ask_page(work.0.len())?;
-        self.memory.ask_open()?;
+        self.memory.ask_phase(Phase::Open)?;
         if !self.memory.is_idle() {
             return Ok(Balanced::Busy);
         }
@@ -75,7 +76,7 @@ impl<D: Drive> Volume<D> {
     fn ask_drain(&self) -> Result<(), Fault>
         ensures { said result ≡ and_then (asked 2 (is_closing (volume_of D.meaning self.now).memory.phase)) (asked 15 (is_idle (volume_of D.meaning self.now).memory.chart)) }
     {
-        self.memory.ask_closing()?;
+        self.memory.ask_phase(Phase::Closing)?;
         self.memory.ask_idle()
     }
 
@@ -137,18 +138,18 @@ impl<D: Drive> Volume<D> {
         requires paged { length page.old ≡ 512 }
         ensures { (reply : Reply) → ComesTo (give_oldest (rules D.Of.Kind.depth D.Of.Kind.life) (D.meaning self.old.drive) (volume_of D.meaning self.old).memory left reply (oldest (volume_of D.meaning self.old).memory.service)) (volume_of D.meaning self.old) (volume_of D.meaning self.new) (replied (section_or reply) result) }
     {
-        let mut service = self.memory.service();
-        let Some(oldest) = service.oldest() else {
+        let Some(oldest) = self.memory.service().first().copied() else {
             return Ok(None);
         };
         let k = covering(oldest);
         let label = self.label(LabelState::InUse);
         let mut section = shown_section(&self.drive, &label, k, page);
+        let service = self.memory.service();
         let most = service.len().saturating_sub(left);
-        let given = service.take_section(k, most);
+        let Parted { given, staying } = part(service, k, most);
         give_back(&mut section, k, &given);
         self.post_section(k, &section, page)?;
-        self.memory.give(k, section.count(), &service);
+        self.memory.give(k, section.count(), staying);
         Ok(Some(k))
     }
 

@@ -10,6 +10,7 @@ use crate::volume::Volume;
 use drive::device::Drive;
 use drive::fault::Fault;
 use memory::state::Memory;
+use model::memory::Phase;
 use posting::asking::ask_page;
 use posting::labels::{ask_believed, ask_may_open, in_use};
 use posting::sections::count_map;
@@ -57,7 +58,7 @@ impl<D: Drive> Volume<D> {
         ensures { CarriesOut (rules D.Of.Kind.depth D.Of.Kind.life) (call.open' (length page.old)) (volume_of D.meaning self.old) (volume_of D.meaning self.new) (replied (λ _. done) result) }
     {
         ask_page(page.len())?;
-        self.memory.ask_shut()?;
+        self.memory.ask_phase(Phase::Shut)?;
         let label = ask_believed(&self.drive, page)?;
         ask_may_open(label.state)?;
         let counts = count_map(&self.drive, &label, page);
@@ -102,7 +103,7 @@ impl<D: Drive> Volume<D> {
         ensures { CarriesOut (rules D.Of.Kind.depth D.Of.Kind.life) (call.finish (length page.old)) (volume_of D.meaning self.old) (volume_of D.meaning self.new) (replied (λ _. done) result) }
     {
         ask_page(page.len())?;
-        self.memory.ask_closing()?;
+        self.memory.ask_phase(Phase::Closing)?;
         self.memory.ask_settled(self.drive.owed())?;
         self.label(LabelState::Closed).encode(SUM_START, page);
         self.drive.post(LABEL, page)?;

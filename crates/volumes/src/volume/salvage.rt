@@ -10,6 +10,7 @@ use drive::device::Drive;
 use drive::fault::Fault;
 use mending::next::next_mend;
 use model::answers::Salvaged;
+use model::memory::Phase;
 use posting::asking::{ask_page, ask_quiet, ask_tally};
 use posting::labels::ask_believed;
 use reading::work::Work;
@@ -31,7 +32,7 @@ impl<D: Drive> Volume<D> {
         ensures { CarriesOut (rules D.Of.Kind.depth D.Of.Kind.life) (call.salvage (length page.old) (length tally.old)) (volume_of D.meaning self.old) (volume_of D.meaning self.new) (replied salvaged_reply result) }
     {
         ask_page(page.len())?;
-        self.memory.ask_shut()?;
+        self.memory.ask_phase(Phase::Shut)?;
         let label = ask_believed(&self.drive, page)?;
         ask_tally(tally.len(), self.drive.size())?;
         ask_quiet(self.drive.owed())?;

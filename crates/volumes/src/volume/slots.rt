@@ -12,6 +12,7 @@ use crate::volume::Volume;
 use drive::device::Drive;
 use drive::fault::Fault;
 use memory::entries;
+use model::memory::Phase;
 use posting::asking::ask_page;
 use reading::work::Work;
 
@@ -54,7 +55,7 @@ impl<D: Drive> Volume<D> {
         ensures { CarriesOut (rules D.Of.Kind.depth D.Of.Kind.life) (call.place page.now file slot ticket address) (volume_of D.meaning self.old) (volume_of D.meaning self.new) (replied done_reply result) }
     {
         ask_page(page.len())?;
-        self.memory.ask_open()?;
+        self.memory.ask_phase(Phase::Open)?;
         let used = self.memory.used_file(file)?;
         entries::ask_empty(&used, slot)?;
         self.memory.ask_ticket(ticket, address)?;
@@ -87,7 +88,7 @@ impl<D: Drive> Volume<D> {
         ensures { ComesTo (read_plan (length page.old) file slot (D.meaning self.now.drive) (volume_of D.meaning self.now).memory) (volume_of D.meaning self.now) (volume_of D.meaning self.now) (replied (λ _. page_reply page.new) result) }
     {
         ask_page(page.len())?;
-        self.memory.ask_open()?;
+        self.memory.ask_phase(Phase::Open)?;
         let used = self.memory.used_file(file)?;
         let address = entries::page_of(&used, slot)?;
         self.drive.read(address, page)?;
@@ -105,7 +106,7 @@ impl<D: Drive> Volume<D> {
     pub fn reclaim(&mut self, _pass: &WorkingPass, file: usize, slot: usize) -> Result<(), Fault>
         ensures { CarriesOut (rules D.Of.Kind.depth D.Of.Kind.life) (call.reclaim file slot) (volume_of D.meaning self.old) (volume_of D.meaning self.new) (replied done_reply result) }
     {
-        self.memory.ask_open()?;
+        self.memory.ask_phase(Phase::Open)?;
         let used = self.memory.used_file(file)?;
         let address = entries::left_address(&used, slot)?;
         self.memory.ask_room()?;

@@ -14,19 +14,19 @@ returns-in_err-ask_page g c =
     let p = err_from_is_err_and c.from_residual.result c.from_residual.ensures.1 in
     rw (p.1, p.2) (record { carried = carried _ _ _ _ _ tt (refusing _ _ _ _ _ (asked_no _ _ _ _ c.in_err-ask_page.ensures) refl refl); zero = c.drop-work.ensures })
 
-pub returns-in_err-ask_open : goal.returns-in_err-ask_open
+pub returns-in_err-ask_phase : goal.returns-in_err-ask_phase
 unfolding plan balance_plan
-returns-in_err-ask_open g c =
-    let p = err_from_is_err_and c.from_residual-in_err-ask_open.result c.from_residual-in_err-ask_open.ensures.1 in
-    let no' = asked_yes _ _ _ c.in_ok-ask_page.ensures ∙ asked_no _ _ _ _ c.in_err-ask_open.ensures in
-    rw (p.1, p.2) (record { carried = carried _ _ _ _ _ tt (refusing _ _ _ _ _ no' refl refl); zero = c.drop-work-in_err-ask_open.ensures })
+returns-in_err-ask_phase g c =
+    let p = err_from_is_err_and c.from_residual-in_err-ask_phase.result c.from_residual-in_err-ask_phase.ensures.1 in
+    let no' = asked_yes _ _ _ c.in_ok-ask_page.ensures ∙ asked_no _ _ _ _ c.in_err-ask_phase.ensures in
+    rw (p.1, p.2) (record { carried = carried _ _ _ _ _ tt (refusing _ _ _ _ _ no' refl refl); zero = c.drop-work-in_err-ask_phase.ensures })
 
 pub returns-then-not-is_idle : goal.returns-then-not-is_idle
 unfolding plan
 returns-then-not-is_idle g c =
     let v : Volume = volume_of g.D.Drive.meaning c.args.self.now in
     let r = rules g.D.Of.Kind.depth g.D.Of.Kind.life in
-    let waits = balance_busy r (length c.args.page.now) v.drive v.memory c.in_ok-ask_page.ensures c.in_ok-ask_open.ensures c.if-not-is_idle.ensures in
+    let waits = balance_busy r (length c.args.page.now) v.drive v.memory c.in_ok-ask_page.ensures c.in_ok-ask_phase.ensures c.if-not-is_idle.ensures in
     record { carried = carried _ _ _ _ _ tt (keeping _ _ _ _ _ _ waits refl refl refl); zero = c.drop-work-then-not-is_idle.ensures }
 
 pub returns-in_err-posted : goal.returns-in_err-posted
@@ -35,9 +35,9 @@ returns-in_err-posted g c =
     let p = err_from_is_err_and c.from_residual-in_err-posted.result c.from_residual-in_err-posted.ensures.1 in
     let v : Volume = volume_of g.D.Drive.meaning c.args.self.now in
     let r = rules g.D.Of.Kind.depth g.D.Of.Kind.life in
-    let service : c.len-in_service.result ≡ length v.memory.service = c.len-in_service.ensures.same ∙ ap length c.service.ensures.value in
+    let service : length c.service-in_service.result.now ≡ length v.memory.service = ap length c.service-in_service.ensures.value in
     let few : length v.memory.service < 8 = omega arith in
-    let takes = balance_takes r (length c.args.page.now) v.drive v.memory c.in_ok-ask_page.ensures c.in_ok-ask_open.ensures c.if-not-is_idle.ensures few in
+    let takes = balance_takes r (length c.args.page.now) v.drive v.memory c.in_ok-ask_page.ensures c.in_ok-ask_phase.ensures c.if-not-is_idle.ensures few in
     let long : length c.take.new.page ≡ length c.args.page.now = omega arith in
     rw (p.1, p.2)
     (record {
@@ -50,9 +50,9 @@ unfolding plan
 returns-then-in_service-lt-FEW g c =
     let v : Volume = volume_of g.D.Drive.meaning c.args.self.now in
     let r = rules g.D.Of.Kind.depth g.D.Of.Kind.life in
-    let service : c.len-in_service.result ≡ length v.memory.service = c.len-in_service.ensures.same ∙ ap length c.service.ensures.value in
+    let service : length c.service-in_service.result.now ≡ length v.memory.service = ap length c.service-in_service.ensures.value in
     let few : length v.memory.service < 8 = omega arith in
-    let takes = balance_takes r (length c.args.page.now) v.drive v.memory c.in_ok-ask_page.ensures c.in_ok-ask_open.ensures c.if-not-is_idle.ensures few in
+    let takes = balance_takes r (length c.args.page.now) v.drive v.memory c.in_ok-ask_page.ensures c.in_ok-ask_phase.ensures c.if-not-is_idle.ensures few in
     let long : length c.take.new.page ≡ length c.args.page.now = omega arith in
     record {
       carried = carried _ _ _ _ _ tt (at_plan _ _ _ _ _ _ takes (ap Ok c.balanced.ensures) c.in_ok-posted.ensures);
@@ -65,9 +65,9 @@ returns-in_err-posted-2 g c =
     let p = err_from_is_err_and c.from_residual-in_err-posted-2.result c.from_residual-in_err-posted-2.ensures.1 in
     let v : Volume = volume_of g.D.Drive.meaning c.args.self.now in
     let r = rules g.D.Of.Kind.depth g.D.Of.Kind.life in
-    let service : c.len-in_service.result ≡ length v.memory.service = c.len-in_service.ensures.same ∙ ap length c.service.ensures.value in
+    let service : length c.service-in_service.result.now ≡ length v.memory.service = ap length c.service-in_service.ensures.value in
     let many : 24 < length v.memory.service = omega arith in
-    let gives = balance_gives r (length c.args.page.now) v.drive v.memory c.in_ok-ask_page.ensures c.in_ok-ask_open.ensures c.if-not-is_idle.ensures many in
+    let gives = balance_gives r (length c.args.page.now) v.drive v.memory c.in_ok-ask_page.ensures c.in_ok-ask_phase.ensures c.if-not-is_idle.ensures many in
     let long : length c.give.new.page ≡ length c.args.page.now = omega arith in
     rw (p.1, p.2)
     (record {
@@ -80,9 +80,9 @@ unfolding plan
 returns-then-in_service-gt-MANY g c =
     let v : Volume = volume_of g.D.Drive.meaning c.args.self.now in
     let r = rules g.D.Of.Kind.depth g.D.Of.Kind.life in
-    let service : c.len-in_service.result ≡ length v.memory.service = c.len-in_service.ensures.same ∙ ap length c.service.ensures.value in
+    let service : length c.service-in_service.result.now ≡ length v.memory.service = ap length c.service-in_service.ensures.value in
     let many : 24 < length v.memory.service = omega arith in
-    let gives = balance_gives r (length c.args.page.now) v.drive v.memory c.in_ok-ask_page.ensures c.in_ok-ask_open.ensures c.if-not-is_idle.ensures many in
+    let gives = balance_gives r (length c.args.page.now) v.drive v.memory c.in_ok-ask_page.ensures c.in_ok-ask_phase.ensures c.if-not-is_idle.ensures many in
     let long : length c.give.new.page ≡ length c.args.page.now = omega arith in
     record {
       carried = carried _ _ _ _ _ tt (at_plan _ _ _ _ _ _ gives (ap Ok c.balanced-then-in_service-gt-MANY.ensures) (c.in_ok-posted-2.ensures quiet));
@@ -94,8 +94,8 @@ unfolding plan
 returns g c =
     let v : Volume = volume_of g.D.Drive.meaning c.args.self.now in
     let r = rules g.D.Of.Kind.depth g.D.Of.Kind.life in
-    let service : c.len-in_service.result ≡ length v.memory.service = c.len-in_service.ensures.same ∙ ap length c.service.ensures.value in
+    let service : length c.service-in_service.result.now ≡ length v.memory.service = ap length c.service-in_service.ensures.value in
     let some' : 8 ≤ length v.memory.service = omega arith in
     let most : length v.memory.service ≤ 24 = omega arith in
-    let rests = balance_quiet r (length c.args.page.now) v.drive v.memory c.in_ok-ask_page.ensures c.in_ok-ask_open.ensures c.if-not-is_idle.ensures some' most in
+    let rests = balance_quiet r (length c.args.page.now) v.drive v.memory c.in_ok-ask_page.ensures c.in_ok-ask_phase.ensures c.if-not-is_idle.ensures some' most in
     record { carried = carried _ _ _ _ _ tt (keeping _ _ _ _ _ _ rests refl refl refl); zero = c.drop-work-2.ensures }

@@ -1,6 +1,6 @@
 use Rattle.std.proofs.Common.{length, refl, ap, ◌∙◌, arith}
 use Rattle.std.proofs.lemmas.Result.{err_from_is_err_and}
-use Rattle.memory.specs.View.{view, opened_as}
+use Rattle.memory.specs.View.{opened_as}
 use Rattle.model.specs.Calls.{plan, Volume}
 use Rattle.model.specs.Plans.{open_plan, next_trouble}
 use Rattle.model.specs.Shown.{with_state}
@@ -18,25 +18,25 @@ returns-in_err-ask_page g c =
     let p = err_from_is_err_and c.from_residual.result c.from_residual.ensures.1 in
     rw (p.1, p.2) (carried _ _ _ _ _ tt (refusing _ _ _ _ _ (asked_no _ _ _ _ c.in_err-ask_page.ensures) refl refl))
 
-pub returns-in_err-ask_shut : goal.returns-in_err-ask_shut
+pub returns-in_err-ask_phase : goal.returns-in_err-ask_phase
 unfolding plan open_plan
-returns-in_err-ask_shut g c =
-    let p = err_from_is_err_and c.from_residual-in_err-ask_shut.result c.from_residual-in_err-ask_shut.ensures.1 in
-    rw (p.1, p.2) (carried _ _ _ _ _ tt (refusing _ _ _ _ _ (asked_yes _ _ _ c.in_ok-ask_page.ensures ∙ asked_no _ _ _ _ c.in_err-ask_shut.ensures) refl refl))
+returns-in_err-ask_phase g c =
+    let p = err_from_is_err_and c.from_residual-in_err-ask_phase.result c.from_residual-in_err-ask_phase.ensures.1 in
+    rw (p.1, p.2) (carried _ _ _ _ _ tt (refusing _ _ _ _ _ (asked_yes _ _ _ c.in_ok-ask_page.ensures ∙ asked_no _ _ _ _ c.in_err-ask_phase.ensures) refl refl))
 
 pub returns-in_err-label : goal.returns-in_err-label
 unfolding plan open_plan
 returns-in_err-label g c =
     let p = err_from_is_err_and c.from_residual-in_err-label.result c.from_residual-in_err-label.ensures.1 in
     rw (p.1, p.2) (carried _ _ _ _ _ tt (refusing _ _ _ _ _
-    (asked_yes _ _ _ c.in_ok-ask_page.ensures ∙ (asked_yes _ _ _ c.in_ok-ask_shut.ensures ∙ needed_none _ _ _ _ c.in_err-label.ensures)) refl refl))
+    (asked_yes _ _ _ c.in_ok-ask_page.ensures ∙ (asked_yes _ _ _ c.in_ok-ask_phase.ensures ∙ needed_none _ _ _ _ c.in_err-label.ensures)) refl refl))
 
 pub returns-in_err-ask_may_open : goal.returns-in_err-ask_may_open
 unfolding plan open_plan
 returns-in_err-ask_may_open g c =
     let p = err_from_is_err_and c.from_residual-in_err-ask_may_open.result c.from_residual-in_err-ask_may_open.ensures.1 in
     rw (p.1, p.2) (carried _ _ _ _ _ tt (refusing _ _ _ _ _
-    (asked_yes _ _ _ c.in_ok-ask_page.ensures ∙ (asked_yes _ _ _ c.in_ok-ask_shut.ensures ∙ (needed_some _ _ _ _ c.in_ok-label.ensures
+    (asked_yes _ _ _ c.in_ok-ask_page.ensures ∙ (asked_yes _ _ _ c.in_ok-ask_phase.ensures ∙ (needed_some _ _ _ _ c.in_ok-label.ensures
     ∙ asked_no _ _ _ _ c.in_err-ask_may_open.ensures))) refl refl))
 
 pub count_map-counts-requires : goal.count_map-counts-requires
@@ -55,9 +55,9 @@ pub returns-in_err-post : goal.returns-in_err-post
 unfolding plan open_plan
 returns-in_err-post g c =
     let p = err_from_is_err_and c.from_residual-in_err-post.result c.from_residual-in_err-post.ensures.1 in
-    let same = ap {B = Volume} (λ m. record { drive = m; memory = view c.args.self.now.memory }) c.in_err-post.ensures.after in
+    let same = ap {B = Volume} (λ m. record { drive = m; memory = c.args.self.now.memory }) c.in_err-post.ensures.after in
     rw (p.1, p.2) (carried _ _ _ _ _ tt (post_refused_page _ _ _ _ _ _ _ _ _ _
-    (asked_yes _ _ _ c.in_ok-ask_page.ensures ∙ (asked_yes _ _ _ c.in_ok-ask_shut.ensures ∙ (needed_some _ _ _ _ c.in_ok-label.ensures
+    (asked_yes _ _ _ c.in_ok-ask_page.ensures ∙ (asked_yes _ _ _ c.in_ok-ask_phase.ensures ∙ (needed_some _ _ _ _ c.in_ok-label.ensures
     ∙ asked_yes _ _ _ c.in_ok-ask_may_open.ensures)))
     (c.encode.ensures ∙ ap label_bytes c.in_use-opened.ensures) c.in_err-post.ensures.answer refl same))
 
@@ -65,11 +65,11 @@ pub returns : goal.returns
 unfolding plan open_plan
 returns g c =
     let posted = c.in_ok-post.ensures in
-    let v = view c.args.self.now.memory in
+    let v = c.args.self.now.memory in
     let l = c.in_ok-label.label in
     let next : Label = with_state l InUse (next_trouble l.state l.trouble) in
     let held = c.open.ensures ∙ (ap (λ x. opened_as v x c.count_map-counts.result) c.in_use-opened.ensures ∙ ap (opened_as v next) c.count_map-counts.ensures) in
     carried _ _ _ _ _ tt (posting_page _ _ _ _ _ _ _ _ _ posted.after.0
-    (asked_yes _ _ _ c.in_ok-ask_page.ensures ∙ (asked_yes _ _ _ c.in_ok-ask_shut.ensures ∙ (needed_some _ _ _ _ c.in_ok-label.ensures
+    (asked_yes _ _ _ c.in_ok-ask_page.ensures ∙ (asked_yes _ _ _ c.in_ok-ask_phase.ensures ∙ (needed_some _ _ _ _ c.in_ok-label.ensures
     ∙ asked_yes _ _ _ c.in_ok-ask_may_open.ensures)))
     (c.encode.ensures ∙ ap label_bytes c.in_use-opened.ensures) posted.answer refl held posted.after.1)

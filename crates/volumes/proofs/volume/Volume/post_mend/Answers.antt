@@ -1,6 +1,5 @@
 use Rattle.std.proofs.Common.{eqb, length, refl, ap, ◌∙◌, arith}
 use Rattle.std.proofs.lemmas.Result.{err_from_is_err_and}
-use Rattle.memory.specs.View.{view}
 use Rattle.model.specs.Calls.{plan, Volume}
 use Rattle.model.specs.Carried.{asked}
 use Rattle.model.specs.Mending.{salvage_plan}
@@ -15,18 +14,18 @@ returns-in_err-ask_page g c =
     let p = err_from_is_err_and c.from_residual.result c.from_residual.ensures.1 in
     rw (p.1, p.2) (carried _ _ _ _ _ tt (refusing _ _ _ _ _ (asked_no _ _ _ _ c.in_err-ask_page.ensures) refl refl))
 
-pub returns-in_err-ask_shut : goal.returns-in_err-ask_shut
+pub returns-in_err-ask_phase : goal.returns-in_err-ask_phase
 unfolding plan salvage_plan
-returns-in_err-ask_shut g c =
-    let p = err_from_is_err_and c.from_residual-in_err-ask_shut.result c.from_residual-in_err-ask_shut.ensures.1 in
-    rw (p.1, p.2) (carried _ _ _ _ _ tt (refusing _ _ _ _ _ (asked_yes _ _ _ c.in_ok-ask_page.ensures ∙ asked_no _ _ _ _ c.in_err-ask_shut.ensures) refl refl))
+returns-in_err-ask_phase g c =
+    let p = err_from_is_err_and c.from_residual-in_err-ask_phase.result c.from_residual-in_err-ask_phase.ensures.1 in
+    rw (p.1, p.2) (carried _ _ _ _ _ tt (refusing _ _ _ _ _ (asked_yes _ _ _ c.in_ok-ask_page.ensures ∙ asked_no _ _ _ _ c.in_err-ask_phase.ensures) refl refl))
 
 pub returns-in_err-label : goal.returns-in_err-label
 unfolding plan salvage_plan
 returns-in_err-label g c =
     let p = err_from_is_err_and c.from_residual-in_err-label.result c.from_residual-in_err-label.ensures.1 in
     rw (p.1, p.2) (carried _ _ _ _ _ tt (refusing _ _ _ _ _
-    (asked_yes _ _ _ c.in_ok-ask_page.ensures ∙ (asked_yes _ _ _ c.in_ok-ask_shut.ensures ∙ needed_none _ _ _ _ c.in_err-label.ensures)) refl refl))
+    (asked_yes _ _ _ c.in_ok-ask_page.ensures ∙ (asked_yes _ _ _ c.in_ok-ask_phase.ensures ∙ needed_none _ _ _ _ c.in_err-label.ensures)) refl refl))
 
 pub returns-in_err-ask_tally : goal.returns-in_err-ask_tally
 unfolding plan salvage_plan
@@ -34,7 +33,7 @@ returns-in_err-ask_tally g c =
     let p = err_from_is_err_and c.from_residual-in_err-ask_tally.result c.from_residual-in_err-ask_tally.ensures.1 in
     let at_size = ap (λ n. asked 5 (eqb (length c.args.tally.now) n)) c.size.ensures in
     rw (p.1, p.2) (carried _ _ _ _ _ tt (refusing _ _ _ _ _
-    (asked_yes _ _ _ c.in_ok-ask_page.ensures ∙ (asked_yes _ _ _ c.in_ok-ask_shut.ensures ∙ (needed_some _ _ _ _ c.in_ok-label.ensures
+    (asked_yes _ _ _ c.in_ok-ask_page.ensures ∙ (asked_yes _ _ _ c.in_ok-ask_phase.ensures ∙ (needed_some _ _ _ _ c.in_ok-label.ensures
     ∙ asked_no _ _ _ _ (c.in_err-ask_tally.ensures ∙ at_size)))) refl refl))
 
 pub returns-in_err-ask_quiet : goal.returns-in_err-ask_quiet
@@ -44,7 +43,7 @@ returns-in_err-ask_quiet g c =
     let at_size = ap (λ n. asked 5 (eqb (length c.args.tally.now) n)) c.size.ensures in
     let at_owed = ap (λ n. asked 15 (eqb n 0)) c.owed.ensures.value in
     rw (p.1, p.2) (carried _ _ _ _ _ tt (refusing _ _ _ _ _
-    (asked_yes _ _ _ c.in_ok-ask_page.ensures ∙ (asked_yes _ _ _ c.in_ok-ask_shut.ensures ∙ (needed_some _ _ _ _ c.in_ok-label.ensures
+    (asked_yes _ _ _ c.in_ok-ask_page.ensures ∙ (asked_yes _ _ _ c.in_ok-ask_phase.ensures ∙ (needed_some _ _ _ _ c.in_ok-label.ensures
     ∙ (asked_yes _ _ _ (c.in_ok-ask_tally.ensures ∙ at_size) ∙ asked_no _ _ _ _ (c.in_err-ask_quiet.ensures ∙ at_owed))))) refl refl))
 
 pub next_mend-answer-requires : goal.next_mend-answer-requires
@@ -59,10 +58,10 @@ returns-in_err-post g c =
     let p = err_from_is_err_and c.from_residual-in_err-post.result c.from_residual-in_err-post.ensures.1 in
     let at_size = ap (λ n. asked 5 (eqb (length c.args.tally.now) n)) c.size.ensures in
     let at_owed = ap (λ n. asked 15 (eqb n 0)) c.owed.ensures.value in
-    let v = view c.args.self.now.memory in
+    let v = c.args.self.now.memory in
     let same = ap {B = Volume} (λ m. record { drive = m; memory = v }) c.in_err-post.ensures.after in
     rw (p.1, p.2) (carried _ _ _ _ _ tt (post_refused _ _ _ _ _ _ _ _ _
-    (asked_yes _ _ _ c.in_ok-ask_page.ensures ∙ (asked_yes _ _ _ c.in_ok-ask_shut.ensures ∙ (needed_some _ _ _ _ c.in_ok-label.ensures
+    (asked_yes _ _ _ c.in_ok-ask_page.ensures ∙ (asked_yes _ _ _ c.in_ok-ask_phase.ensures ∙ (needed_some _ _ _ _ c.in_ok-label.ensures
     ∙ (asked_yes _ _ _ (c.in_ok-ask_tally.ensures ∙ at_size) ∙ (asked_yes _ _ _ (c.in_ok-ask_quiet.ensures ∙ at_owed)
     ∙ c.next_mend-answer.ensures (rules g.D.Of.Kind.depth g.D.Of.Kind.life) v)))))
     c.in_err-post.ensures.answer refl same))
@@ -73,9 +72,9 @@ returns g c =
     let posted = c.in_ok-post.ensures in
     let at_size = ap (λ n. asked 5 (eqb (length c.args.tally.now) n)) c.size.ensures in
     let at_owed = ap (λ n. asked 15 (eqb n 0)) c.owed.ensures.value in
-    let v = view c.args.self.now.memory in
+    let v = c.args.self.now.memory in
     carried _ _ _ _ _ tt (posting _ _ _ _ _ _ _ _ posted.after.0
-    (asked_yes _ _ _ c.in_ok-ask_page.ensures ∙ (asked_yes _ _ _ c.in_ok-ask_shut.ensures ∙ (needed_some _ _ _ _ c.in_ok-label.ensures
+    (asked_yes _ _ _ c.in_ok-ask_page.ensures ∙ (asked_yes _ _ _ c.in_ok-ask_phase.ensures ∙ (needed_some _ _ _ _ c.in_ok-label.ensures
     ∙ (asked_yes _ _ _ (c.in_ok-ask_tally.ensures ∙ at_size) ∙ (asked_yes _ _ _ (c.in_ok-ask_quiet.ensures ∙ at_owed)
     ∙ c.next_mend-answer.ensures (rules g.D.Of.Kind.depth g.D.Of.Kind.life) v)))))
     posted.answer refl refl posted.after.1)
