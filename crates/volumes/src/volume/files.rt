@@ -11,9 +11,8 @@ use drive::device::Drive;
 use drive::fault::Fault;
 use memory::entries;
 use model::memory::{File, Phase, Slot};
-use posting::asking::ask_page;
 use posting::entries::{moved_slots, post_entry};
-use reading::work::Work;
+use reading::work::{Work, ask_page};
 use record::entry::Entry;
 
 impl<D: Drive> Volume<D> {
@@ -42,7 +41,7 @@ impl<D: Drive> Volume<D> {
     ) -> Result<(), Fault>
         ensures { CarriesOut (rules D.Of.Kind.depth D.Of.Kind.life) (call.create (length page.old) file number meter) (volume_of D.meaning self.old) (volume_of D.meaning self.new) (replied done_reply result) }
     {
-        ask_page(page.len())?;
+        let page = ask_page(page)?;
         self.memory.ask_phase(Phase::Open)?;
         self.memory.ask_unused(file)?;
         self.memory.ask_number(number)?;
@@ -81,7 +80,7 @@ impl<D: Drive> Volume<D> {
     fn load_entry(&mut self, file: usize, number: u16, page: &mut [u8]) -> Result<(), Fault>
         ensures { CarriesOut (rules D.Of.Kind.depth D.Of.Kind.life) (call.activate (length page.old) file number) (volume_of D.meaning self.old) (volume_of D.meaning self.new) (replied done_reply result) }
     {
-        ask_page(page.len())?;
+        let page = ask_page(page)?;
         self.memory.ask_phase(Phase::Open)?;
         self.memory.ask_unused(file)?;
         self.memory.ask_number(number)?;
@@ -109,11 +108,11 @@ impl<D: Drive> Volume<D> {
     fn update_entry(&mut self, file: usize, page: &mut [u8]) -> Result<(), Fault>
         ensures { CarriesOut (rules D.Of.Kind.depth D.Of.Kind.life) (call.update (length page.old) file) (volume_of D.meaning self.old) (volume_of D.meaning self.new) (replied done_reply result) }
     {
-        ask_page(page.len())?;
+        let page = ask_page(page)?;
         self.memory.ask_phase(Phase::Open)?;
         let used = self.memory.used_file(file)?;
         self.ask_settled(used.entry)?;
-        let moved = moved_slots(&self.drive, &used.slots);
+        let moved = moved_slots(&self.drive, used.slots);
         let entry = entries::naming_live(used.meter, &moved);
         post_entry(&mut self.drive, self.memory.id(), used.entry, &entry, page)?;
         self.memory.move_slots(file, &moved);

@@ -21,12 +21,10 @@ use memory::map::{give_back, take_lowest};
 use memory::numbers::{Parted, part};
 use model::answers::{Balanced, Drained};
 use model::memory::{MapState, Phase};
-use posting::asking::ask_page;
 use posting::sections::{ENOUGH, covering, shown_section, wanted};
 use reading::layout::{FIRST_SECTION, SUM_START};
-use reading::work::Work;
-use record::label::LabelState;
-use record::region::Span;
+use reading::work::{Work, ask_page};
+use record::control::RECORD;
 use record::section::Section;
 
 // With fewer addresses in service, more are taken from the map.
@@ -43,18 +41,18 @@ impl<D: Drive> Volume<D> {
         ensures zero { page.new ≡ replicate (length page.old) 0 }
     {
         let work = Work(page);
-        ask_page(work.0.len())?;
+        let page = ask_page(&mut *work.0)?;
         self.memory.ask_phase(Phase::Open)?;
         if !self.memory.is_idle() {
             return Ok(Balanced::Busy);
         }
         let in_service = self.memory.service().len();
         if in_service < FEW {
-            let posted = self.take(&mut *work.0)?;
+            let posted = self.take(page)?;
             return Ok(balanced(posted));
         }
         if in_service > MANY {
-            let posted = self.give(ENOUGH, &mut *work.0)?;
+            let posted = self.give(ENOUGH, page)?;
             return Ok(balanced(posted));
         }
         Ok(Balanced::Quiet)
@@ -66,9 +64,9 @@ impl<D: Drive> Volume<D> {
         ensures zero { page.new ≡ replicate (length page.old) 0 }
     {
         let work = Work(page);
-        ask_page(work.0.len())?;
+        let page = ask_page(&mut *work.0)?;
         self.ask_drain()?;
-        let posted = self.give(0, &mut *work.0)?;
+        let posted = self.give(0, page)?;
         Ok(drained(posted))
     }
 
@@ -114,8 +112,7 @@ impl<D: Drive> Volume<D> {
 
     // Takes the lowest free addresses of the lowest section that counts one, while the map is idle and few are in
     // service; answers the section.
-    fn take(&mut self, page: &mut [u8]) -> Result<Option<u8>, Fault>
-        requires paged { length page.old ≡ 512 }
+    fn take(&mut self, page: &mut [u8; RECORD]) -> Result<Option<u8>, Fault>
         requires few { length (volume_of D.meaning self.old).memory.service ≤ 7 }
         requires settled { (volume_of D.meaning self.old).memory.unsettled ≡ [] }
         ensures { ComesTo (take_from (rules D.Of.Kind.depth D.Of.Kind.life) (D.meaning self.old.drive) (volume_of D.meaning self.old).memory (counting_free 0 (volume_of D.meaning self.old).memory.counts)) (volume_of D.meaning self.old) (volume_of D.meaning self.new) (replied (section_or quiet) result) }
@@ -123,8 +120,7 @@ impl<D: Drive> Volume<D> {
         let Some(k) = self.memory.section_with_free() else {
             return Ok(None);
         };
-        let label = self.label(LabelState::InUse);
-        let mut section = shown_section(&self.drive, &label, k, page);
+        let mut section = shown_section(&self.records(), k, page);
         let most = wanted(self.memory.service().len());
         let taken = take_lowest::<32>(&mut section, k, most);
         self.post_section(k, &section, page)?;
@@ -134,16 +130,14 @@ impl<D: Drive> Volume<D> {
 
     // Gives back addresses of the oldest one's section, oldest first, until `left` are in service or that section has no
     // more there; answers the section, or none where nothing is in service.
-    fn give(&mut self, left: usize, page: &mut [u8]) -> Result<Option<u8>, Fault>
-        requires paged { length page.old ≡ 512 }
+    fn give(&mut self, left: usize, page: &mut [u8; RECORD]) -> Result<Option<u8>, Fault>
         ensures { (reply : Reply) → ComesTo (give_oldest (rules D.Of.Kind.depth D.Of.Kind.life) (D.meaning self.old.drive) (volume_of D.meaning self.old).memory left reply (oldest (volume_of D.meaning self.old).memory.service)) (volume_of D.meaning self.old) (volume_of D.meaning self.new) (replied (section_or reply) result) }
     {
         let Some(oldest) = self.memory.service().first().copied() else {
             return Ok(None);
         };
         let k = covering(oldest);
-        let label = self.label(LabelState::InUse);
-        let mut section = shown_section(&self.drive, &label, k, page);
+        let mut section = shown_section(&self.records(), k, page);
         let service = self.memory.service();
         let most = service.len().saturating_sub(left);
         let Parted { given, staying } = part(service, k, most);
@@ -154,16 +148,14 @@ impl<D: Drive> Volume<D> {
     }
 
     // Posts section `k` of the map.
-    fn post_section(&mut self, k: u8, section: &Section, page: &mut [u8]) -> Result<(), Fault>
-        requires paged { length page.old ≡ 512 }
-        requires covered { k ≤ 16 }
+    fn post_section(&mut self, k: u8, section: &Section, page: &mut [u8; RECORD]) -> Result<(), Fault>
+        requires { k ≤ 16 }
         ensures answer { said result ≡ post_answer D.Of.Kind.depth D.Of.Kind.life (D.meaning self.old.drive) (1 + k) (length (section_bytes (volume_of D.meaning self.old).memory.id (volume_of D.meaning self.old).memory.entries (size (D.meaning self.old.drive)) k section.now.bits)) }
         ensures after { PostLeaves result (D.meaning self.old.drive) (1 + k) (section_bytes (volume_of D.meaning self.old).memory.id (volume_of D.meaning self.old).memory.entries (size (D.meaning self.old.drive)) k section.now.bits) (D.meaning self.new.drive) }
         ensures same { self.new.memory ≡ self.old.memory }
     {
-        let label = self.label(LabelState::InUse);
-        let span = Span::of_map(k, label.entries, label.records);
-        section.encode(SUM_START, label.id, &span, page);
+        let records = self.records();
+        section.encode(SUM_START, records.label.id, &records.span(k), page);
         self.drive.post(FIRST_SECTION + u16::from(k), page)
     }
 }

@@ -11,11 +11,11 @@ use drive::device::Drive;
 use drive::fault::Fault;
 use memory::state::Memory;
 use model::memory::Phase;
-use posting::asking::ask_page;
-use posting::labels::{ask_believed, ask_may_open, in_use};
+use posting::labels::{ask_may_open, in_use};
 use posting::sections::count_map;
 use reading::layout::{LABEL, SUM_START};
-use reading::work::Work;
+use reading::shown::Records;
+use reading::work::{Work, ask_page};
 use record::label::LabelState;
 
 impl<D: Drive> Volume<D> {
@@ -57,12 +57,12 @@ impl<D: Drive> Volume<D> {
     fn post_in_use(&mut self, page: &mut [u8]) -> Result<WorkingPass, Fault>
         ensures { CarriesOut (rules D.Of.Kind.depth D.Of.Kind.life) (call.open' (length page.old)) (volume_of D.meaning self.old) (volume_of D.meaning self.new) (replied (λ _. done) result) }
     {
-        ask_page(page.len())?;
+        let page = ask_page(page)?;
         self.memory.ask_phase(Phase::Shut)?;
-        let label = ask_believed(&self.drive, page)?;
-        ask_may_open(label.state)?;
-        let counts = count_map(&self.drive, &label, page);
-        let opened = in_use(&label);
+        let records = Records::believed(&self.drive, page)?;
+        ask_may_open(records.label.state)?;
+        let counts = count_map(&records, page);
+        let opened = in_use(&records.label);
         opened.encode(SUM_START, page);
         self.drive.post(LABEL, page)?;
         self.memory.open(&opened, counts);
@@ -102,7 +102,7 @@ impl<D: Drive> Volume<D> {
     fn post_closed(&mut self, page: &mut [u8]) -> Result<(), Fault>
         ensures { CarriesOut (rules D.Of.Kind.depth D.Of.Kind.life) (call.finish (length page.old)) (volume_of D.meaning self.old) (volume_of D.meaning self.new) (replied (λ _. done) result) }
     {
-        ask_page(page.len())?;
+        let page = ask_page(page)?;
         self.memory.ask_phase(Phase::Closing)?;
         self.memory.ask_settled(self.drive.owed())?;
         self.label(LabelState::Closed).encode(SUM_START, page);

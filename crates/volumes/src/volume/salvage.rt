@@ -11,9 +11,9 @@ use drive::fault::Fault;
 use mending::next::next_mend;
 use model::answers::Salvaged;
 use model::memory::Phase;
-use posting::asking::{ask_page, ask_quiet, ask_tally};
-use posting::labels::ask_believed;
-use reading::work::Work;
+use posting::asking::{ask_quiet, ask_tally};
+use reading::shown::Records;
+use reading::work::{Work, ask_page};
 
 impl<D: Drive> Volume<D> {
     // Posts the first of these that applies: the label as salvage begun, an entry in its mended form, a section of the
@@ -31,12 +31,12 @@ impl<D: Drive> Volume<D> {
     fn post_mend(&mut self, page: &mut [u8], tally: &mut [u8]) -> Result<Salvaged, Fault>
         ensures { CarriesOut (rules D.Of.Kind.depth D.Of.Kind.life) (call.salvage (length page.old) (length tally.old)) (volume_of D.meaning self.old) (volume_of D.meaning self.new) (replied salvaged_reply result) }
     {
-        ask_page(page.len())?;
+        let page = ask_page(page)?;
         self.memory.ask_phase(Phase::Shut)?;
-        let label = ask_believed(&self.drive, page)?;
+        let records = Records::believed(&self.drive, page)?;
         ask_tally(tally.len(), self.drive.size())?;
         ask_quiet(self.drive.owed())?;
-        let (answer, address) = next_mend(&self.drive, &label, page, tally);
+        let (answer, address) = next_mend(&records, page, tally);
         self.drive.post(address, page)?;
         Ok(answer)
     }

@@ -13,8 +13,7 @@ use drive::device::Drive;
 use drive::fault::Fault;
 use memory::entries;
 use model::memory::Phase;
-use posting::asking::ask_page;
-use reading::work::Work;
+use reading::work::{Work, ask_page};
 
 impl<D: Drive> Volume<D> {
     // Posts the page at the grant's address for an Empty slot, which is Nulled from now on, and spends the grant. A
@@ -32,7 +31,7 @@ impl<D: Drive> Volume<D> {
         ensures zero { page.new ≡ replicate (length page.old) 0 }
     {
         let work = Work(page);
-        match self.place_page(grant.ticket, grant.address, file, slot, &*work.0) {
+        match self.place_page(grant.ticket, grant.address, file, slot, &mut *work.0) {
             Ok(()) => {
                 let Grant {
                     ticket: _,
@@ -50,11 +49,11 @@ impl<D: Drive> Volume<D> {
         address: u16,
         file: usize,
         slot: usize,
-        page: &[u8],
+        page: &mut [u8],
     ) -> Result<(), Fault>
-        ensures { CarriesOut (rules D.Of.Kind.depth D.Of.Kind.life) (call.place page.now file slot ticket address) (volume_of D.meaning self.old) (volume_of D.meaning self.new) (replied done_reply result) }
+        ensures { CarriesOut (rules D.Of.Kind.depth D.Of.Kind.life) (call.place page.old file slot ticket address) (volume_of D.meaning self.old) (volume_of D.meaning self.new) (replied done_reply result) }
     {
-        ask_page(page.len())?;
+        let page = ask_page(page)?;
         self.memory.ask_phase(Phase::Open)?;
         let used = self.memory.used_file(file)?;
         entries::ask_empty(&used, slot)?;
@@ -87,7 +86,7 @@ impl<D: Drive> Volume<D> {
     fn read_page(&self, file: usize, slot: usize, page: &mut [u8]) -> Result<(), Fault>
         ensures { ComesTo (read_plan (length page.old) file slot (D.meaning self.now.drive) (volume_of D.meaning self.now).memory) (volume_of D.meaning self.now) (volume_of D.meaning self.now) (replied (λ _. page_reply page.new) result) }
     {
-        ask_page(page.len())?;
+        let page = ask_page(page)?;
         self.memory.ask_phase(Phase::Open)?;
         let used = self.memory.used_file(file)?;
         let address = entries::page_of(&used, slot)?;
