@@ -23,10 +23,10 @@ const FIXED_WRITES: u32 = 5;
 // Makes a new volume: its entries free, its whole page region free, its label closed. The drive's size is the
 // number of records. A refusal changes nothing; the page comes back zero.
 pub fn make<D: Drive>(drive: &mut D, id: u32, entries: u16, page: &mut [u8]) -> Result<(), Fault>
-    ensures answer { said result ≡ make_answer D.Of.Kind.life (D.meaning drive.old) id entries (length page.old) }
+    ensures answer { said result ≡ make_answer D.Of.LIFE (D.meaning drive.old) id entries (length page.old) }
     ensures after { D.meaning drive.new ≡ after_make result (D.meaning drive.old) id entries }
     ensures zero { page.new ≡ replicate (length page.old) 0 }
-    ensures unharmed { LeavesAVolumeNoPowerCutHarms result (record { depth = D.Of.Kind.depth; life = D.Of.Kind.life }) id entries (D.meaning drive.new) }
+    ensures unharmed { LeavesAVolumeNoPowerCutHarms result (record { depth = D.Of.DEPTH; life = D.Of.LIFE }) id entries (D.meaning drive.new) }
 {
     let work = Work(page);
     ask_make(drive, id, entries, work.0.len())?;
@@ -37,7 +37,7 @@ pub fn make<D: Drive>(drive: &mut D, id: u32, entries: u16, page: &mut [u8]) -> 
 
 // The questions of make, before anything is stepped or written.
 fn ask_make<D: Drive>(drive: &D, id: u32, entries: u16, length: usize) -> Result<(), Fault>
-    ensures { said result ≡ make_answer D.Of.Kind.life (D.meaning drive.now) id entries length }
+    ensures { said result ≡ make_answer D.Of.LIFE (D.meaning drive.now) id entries length }
 {
     if length != RECORD {
         return Err(Question::PageLength.refused());
@@ -61,7 +61,7 @@ fn write_volume<D: Drive>(
     requires paged { length page.old ≡ 512 }
     requires sized { in_limits id entries (size (D.meaning drive.old)) ≡ true }
     requires quiet { (D.meaning drive.old).outstanding ≡ [] }
-    requires alive { (D.meaning drive.old).wear + (entries + 5) ≤ D.Of.Kind.life }
+    requires alive { (D.meaning drive.old).wear + (entries + 5) ≤ D.Of.LIFE }
     ensures accepted { result ≡ Ok tt }
     ensures after { D.meaning drive.new ≡ written (new_writes id entries (size (D.meaning drive.old))) (D.meaning drive.old) }
 {
@@ -82,7 +82,7 @@ fn write_entries<D: Drive>(
     requires inside { 8 + entries ≤ size (D.meaning drive.old) }
     requires small { entries ≤ 3968 }
     requires quiet { (D.meaning drive.old).outstanding ≡ [] }
-    requires alive { (D.meaning drive.old).wear + entries ≤ D.Of.Kind.life }
+    requires alive { (D.meaning drive.old).wear + entries ≤ D.Of.LIFE }
     ensures accepted { result ≡ Ok tt }
     ensures after { D.meaning drive.new ≡ written (writes_of (entry_write id) entries) (D.meaning drive.old) }
 {
@@ -104,7 +104,7 @@ fn write_map<D: Drive>(
     requires paged { length page.old ≡ 512 }
     requires inside { 8 ≤ size (D.meaning drive.old) }
     requires quiet { (D.meaning drive.old).outstanding ≡ [] }
-    requires alive { (D.meaning drive.old).wear + 3 ≤ D.Of.Kind.life }
+    requires alive { (D.meaning drive.old).wear + 3 ≤ D.Of.LIFE }
     ensures accepted { result ≡ Ok tt }
     ensures after { D.meaning drive.new ≡ written (writes_of (section_write id entries records) 3) (D.meaning drive.old) }
 {
@@ -127,7 +127,7 @@ fn write_labels<D: Drive>(
     requires paged { length page.old ≡ 512 }
     requires inside { 8 ≤ size (D.meaning drive.old) }
     requires quiet { (D.meaning drive.old).outstanding ≡ [] }
-    requires alive { (D.meaning drive.old).wear + 2 ≤ D.Of.Kind.life }
+    requires alive { (D.meaning drive.old).wear + 2 ≤ D.Of.LIFE }
     ensures accepted { result ≡ Ok tt }
     ensures after { D.meaning drive.new ≡ written (label_write id entries records 7 ∷ label_write id entries records 0 ∷ []) (D.meaning drive.old) }
 {

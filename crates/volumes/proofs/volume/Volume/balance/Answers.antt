@@ -25,7 +25,7 @@ pub returns-then-not-is_idle : goal.returns-then-not-is_idle
 unfolding plan
 returns-then-not-is_idle g c =
     let v : Volume = volume_of g.D.Drive.meaning c.args.self.now in
-    let r = rules g.D.Of.Kind.depth g.D.Of.Kind.life in
+    let r = rules g.D.Of.Kind.DEPTH g.D.Of.Kind.LIFE in
     let waits = balance_busy r (length c.args.page.now) v.drive v.memory c.in_ok-ask_page.ensures c.in_ok-ask_open.ensures c.if-not-is_idle.ensures in
     record { carried = carried _ _ _ _ _ tt (keeping _ _ _ _ _ _ waits refl refl refl); zero = c.drop-work-then-not-is_idle.ensures }
 
@@ -34,7 +34,7 @@ unfolding plan
 returns-in_err-posted g c =
     let p = err_from_is_err_and c.from_residual-in_err-posted.result c.from_residual-in_err-posted.ensures.1 in
     let v : Volume = volume_of g.D.Drive.meaning c.args.self.now in
-    let r = rules g.D.Of.Kind.depth g.D.Of.Kind.life in
+    let r = rules g.D.Of.Kind.DEPTH g.D.Of.Kind.LIFE in
     let service : c.len-in_service.result ≡ length v.memory.service = c.len-in_service.ensures.same ∙ ap length c.service.ensures.value in
     let few : length v.memory.service < 8 = omega arith in
     let takes = balance_takes r (length c.args.page.now) v.drive v.memory c.in_ok-ask_page.ensures c.in_ok-ask_open.ensures c.if-not-is_idle.ensures few in
@@ -49,7 +49,7 @@ pub returns-then-in_service-lt-FEW : goal.returns-then-in_service-lt-FEW
 unfolding plan
 returns-then-in_service-lt-FEW g c =
     let v : Volume = volume_of g.D.Drive.meaning c.args.self.now in
-    let r = rules g.D.Of.Kind.depth g.D.Of.Kind.life in
+    let r = rules g.D.Of.Kind.DEPTH g.D.Of.Kind.LIFE in
     let service : c.len-in_service.result ≡ length v.memory.service = c.len-in_service.ensures.same ∙ ap length c.service.ensures.value in
     let few : length v.memory.service < 8 = omega arith in
     let takes = balance_takes r (length c.args.page.now) v.drive v.memory c.in_ok-ask_page.ensures c.in_ok-ask_open.ensures c.if-not-is_idle.ensures few in
@@ -64,7 +64,7 @@ unfolding plan
 returns-in_err-posted-2 g c =
     let p = err_from_is_err_and c.from_residual-in_err-posted-2.result c.from_residual-in_err-posted-2.ensures.1 in
     let v : Volume = volume_of g.D.Drive.meaning c.args.self.now in
-    let r = rules g.D.Of.Kind.depth g.D.Of.Kind.life in
+    let r = rules g.D.Of.Kind.DEPTH g.D.Of.Kind.LIFE in
     let service : c.len-in_service.result ≡ length v.memory.service = c.len-in_service.ensures.same ∙ ap length c.service.ensures.value in
     let many : 24 < length v.memory.service = omega arith in
     let gives = balance_gives r (length c.args.page.now) v.drive v.memory c.in_ok-ask_page.ensures c.in_ok-ask_open.ensures c.if-not-is_idle.ensures many in
@@ -79,7 +79,7 @@ pub returns-then-in_service-gt-MANY : goal.returns-then-in_service-gt-MANY
 unfolding plan
 returns-then-in_service-gt-MANY g c =
     let v : Volume = volume_of g.D.Drive.meaning c.args.self.now in
-    let r = rules g.D.Of.Kind.depth g.D.Of.Kind.life in
+    let r = rules g.D.Of.Kind.DEPTH g.D.Of.Kind.LIFE in
     let service : c.len-in_service.result ≡ length v.memory.service = c.len-in_service.ensures.same ∙ ap length c.service.ensures.value in
     let many : 24 < length v.memory.service = omega arith in
     let gives = balance_gives r (length c.args.page.now) v.drive v.memory c.in_ok-ask_page.ensures c.in_ok-ask_open.ensures c.if-not-is_idle.ensures many in
@@ -93,7 +93,7 @@ pub returns : goal.returns
 unfolding plan
 returns g c =
     let v : Volume = volume_of g.D.Drive.meaning c.args.self.now in
-    let r = rules g.D.Of.Kind.depth g.D.Of.Kind.life in
+    let r = rules g.D.Of.Kind.DEPTH g.D.Of.Kind.LIFE in
     let service : c.len-in_service.result ≡ length v.memory.service = c.len-in_service.ensures.same ∙ ap length c.service.ensures.value in
     let some' : 8 ≤ length v.memory.service = omega arith in
     let most : length v.memory.service ≤ 24 = omega arith in

@@ -64,7 +64,7 @@ returns-in_err-post g c =
     rw (p.1, p.2) (carried _ _ _ _ _ tt (post_refused _ _ _ _ _ _ _ _ _
     (asked_yes _ _ _ c.in_ok-ask_page.ensures ∙ (asked_yes _ _ _ c.in_ok-ask_shut.ensures ∙ (needed_some _ _ _ _ c.in_ok-label.ensures
     ∙ (asked_yes _ _ _ (c.in_ok-ask_tally.ensures ∙ at_size) ∙ (asked_yes _ _ _ (c.in_ok-ask_quiet.ensures ∙ at_owed)
-    ∙ c.next_mend-answer.ensures (rules g.D.Of.Kind.depth g.D.Of.Kind.life) v)))))
+    ∙ c.next_mend-answer.ensures (rules g.D.Of.Kind.DEPTH g.D.Of.Kind.LIFE) v)))))
     c.in_err-post.ensures.answer refl same))
 
 pub returns : goal.returns
@@ -77,5 +77,5 @@ returns g c =
     carried _ _ _ _ _ tt (posting _ _ _ _ _ _ _ _ posted.after.0
     (asked_yes _ _ _ c.in_ok-ask_page.ensures ∙ (asked_yes _ _ _ c.in_ok-ask_shut.ensures ∙ (needed_some _ _ _ _ c.in_ok-label.ensures
     ∙ (asked_yes _ _ _ (c.in_ok-ask_tally.ensures ∙ at_size) ∙ (asked_yes _ _ _ (c.in_ok-ask_quiet.ensures ∙ at_owed)
-    ∙ c.next_mend-answer.ensures (rules g.D.Of.Kind.depth g.D.Of.Kind.life) v)))))
+    ∙ c.next_mend-answer.ensures (rules g.D.Of.Kind.DEPTH g.D.Of.Kind.LIFE) v)))))
     posted.answer refl refl posted.after.1)
