@@ -52,3 +52,8 @@ told f = refusal (number_of f.question) f.address
 abbrev pub said : {X : Type 0} → Result X Fault → Result X Refusal
 said (Ok x) = Ok x
 said (Err f) = Err (told f)
+
+-- an answer, without what it hands over
+abbrev pub answered : {X E : Type 0} → Result X E → Result (Unit {0}) E
+answered (Ok x) = Ok tt
+answered (Err f) = Err f

@@ -5,7 +5,7 @@ use Rattle.drive.specs.declared.cabinet.Cabinet.{Cabinet}
 use Rattle.drive.specs.declared.lab.Lab.{Lab}
 use Rattle.drive.specs.Backlogs.{held}
 use Rattle.drive.specs.Meaning.{Meaning}
-use Rattle.drive.specs.Surfaces.{disk}
+use Rattle.drive.specs.Disks.{disk}
 
 -- nothing is ever outstanding on a card
 abbrev pub of_card : Card → Meaning

@@ -1,6 +1,5 @@
 // The cabinet: it completes nothing in a post, and one write in a step.
-ghost use Rattle.std.specs.Prelude.{◌≡◌, ◌≤◌, true};
-ghost use Rattle.drive.specs.Backlogs.{is_sound};
+ghost use Rattle.std.specs.Prelude.{◌≤◌};
 
 use crate::backlog::Backlog;
 
@@ -10,6 +9,5 @@ pub mod calls;
 pub struct Cabinet<'a> {
     backlog: Backlog<'a>,
     wear: u32,
-    ghost kept: { is_sound backlog ≡ true },
     ghost worn: { wear ≤ 1000000 },
 }

@@ -1,6 +1,5 @@
 // The lab drive, for tests: its pace decides how many writes it completes.
-ghost use Rattle.std.specs.Prelude.{◌≡◌, ◌≤◌, true, length};
-ghost use Rattle.drive.specs.Backlogs.{is_sound};
+ghost use Rattle.std.specs.Prelude.{◌≤◌, length};
 ghost use Rattle.drive.specs.Queues.{line};
 
 use crate::backlog::Backlog;
@@ -12,7 +11,6 @@ pub struct Lab<'a> {
     backlog: Backlog<'a>,
     wear: u32,
     pace: u32,
-    ghost kept: { is_sound backlog ≡ true },
     ghost worn: { wear ≤ 5000 },
-    ghost few: { length (line backlog.queue) ≤ 3 },
+    ghost few: { length (line backlog.queue.items) ≤ 3 },
 }

@@ -10,6 +10,5 @@ pub mod fault;
 pub mod kinds;
 pub mod lab;
 pub mod laws;
-mod queue;
 mod queued;
 mod surface;

@@ -5,9 +5,10 @@ ghost use Rattle.drive.specs.Faults.{said};
 ghost use Rattle.drive.specs.Formed.{held_formed};
 ghost use Rattle.drive.specs.Kinds.{of_cabinet};
 ghost use Rattle.drive.specs.Meaning.{size, owed, posted, complete};
-ghost use Rattle.drive.specs.Surfaces.{states, SameMemory};
+ghost use Rattle.drive.specs.Surfaces.{states};
+ghost use Rattle.drive.specs.Disks.{SameMemory};
 
-use crate::asking::{ask_address, ask_room};
+use crate::asking::{ask_record, ask_room};
 use crate::backlog::Backlog;
 use crate::cabinet::Cabinet;
 use crate::device::{Drive, Kind};
@@ -27,15 +28,14 @@ impl<'a> Cabinet<'a> {
     }
 
     // Takes a write that was accepted, and lets it wait.
-    fn accept(&mut self, at: u16, page: &[u8])
-        requires paged { length page.now ≡ 512 }
+    fn accept(&mut self, at: u16, bytes: &[u8; 512])
         requires within { at < size (of_cabinet self.old) }
         requires room { owed (of_cabinet self.old) < 4 }
         requires alive { (of_cabinet self.old).wear < 1000000 }
-        ensures waits { of_cabinet self.new ≡ posted (of_cabinet self.old) at page.now }
+        ensures waits { of_cabinet self.new ≡ posted (of_cabinet self.old) at bytes.now }
         ensures lent { SameMemory self.old.backlog.surface self.new.backlog.surface }
     {
-        self.backlog.push(at, page);
+        self.backlog.push(at, bytes);
         self.wear += 1;
     }
 
@@ -54,13 +54,12 @@ impl<'a> Drive for Cabinet<'a> {
 
     ghost meaning = { of_cabinet };
 
-    ghost formed = { λ c. held_formed c.backlog c.wear c.kept };
+    ghost formed = { λ c. held_formed c.backlog c.wear };
 
     fn read(&self, at: u16, page: &mut [u8]) -> Result<(), Fault> {
-        ask_address(page.len(), at, self.size())?;
-        if !self.backlog.fetch(at, page) {
-            return Err(Question::Readable.at(at));
-        }
+        ask_record(page, at, self.size())?;
+        let bytes = self.backlog.shown(at).ok_or(Question::Readable.at(at))?;
+        page.copy_from_slice(bytes);
         Ok(())
     }
 
@@ -70,15 +69,9 @@ impl<'a> Drive for Cabinet<'a> {
         ensures waits { of_cabinet self.new ≡ after_post 0 result (of_cabinet self.old) at page.now }
         ensures lent { SameMemory self.old.backlog.surface self.new.backlog.surface }
     {
-        ask_address(page.len(), at, self.size())?;
-        ask_room(
-            CabinetKind::DEPTH,
-            CabinetKind::LIFE,
-            self.backlog.len(),
-            self.wear,
-            at,
-        )?;
-        self.accept(at, page);
+        let bytes = ask_record(page, at, self.size())?;
+        ask_room::<CabinetKind>(self.backlog.len(), self.wear, at)?;
+        self.accept(at, bytes);
         Ok(())
     }
 

@@ -5,9 +5,10 @@ ghost use Rattle.drive.specs.Faults.{said};
 ghost use Rattle.drive.specs.Formed.{card_formed};
 ghost use Rattle.drive.specs.Kinds.{of_card};
 ghost use Rattle.drive.specs.Meaning.{size, owed, posted, complete};
-ghost use Rattle.drive.specs.Surfaces.{states, SameMemory};
+ghost use Rattle.drive.specs.Surfaces.{states};
+ghost use Rattle.drive.specs.Disks.{SameMemory};
 
-use crate::asking::{ask_address, ask_room};
+use crate::asking::{ask_record, ask_room};
 use crate::card::Card;
 use crate::device::{Drive, Kind};
 use crate::fault::{Fault, Question};
@@ -27,14 +28,13 @@ impl<'a> Card<'a> {
     }
 
     // Takes a write that was accepted, and settles it.
-    fn settle(&mut self, at: u16, page: &[u8])
-        requires paged { length page.now ≡ 512 }
+    fn settle(&mut self, at: u16, bytes: &[u8; 512])
         requires within { at < size (of_card self.old) }
         requires alive { (of_card self.old).wear < 4294967295 }
-        ensures at_once { of_card self.new ≡ complete 1 (posted (of_card self.old) at page.now) }
+        ensures at_once { of_card self.new ≡ complete 1 (posted (of_card self.old) at bytes.now) }
         ensures lent { SameMemory self.old.surface self.new.surface }
     {
-        self.surface.settle(usize::from(at), page);
+        self.surface.settle(usize::from(at), bytes);
         self.wear += 1;
     }
 
@@ -54,10 +54,12 @@ impl<'a> Drive for Card<'a> {
     ghost formed = { card_formed };
 
     fn read(&self, at: u16, page: &mut [u8]) -> Result<(), Fault> {
-        ask_address(page.len(), at, self.size())?;
-        if !self.surface.fetch(usize::from(at), page) {
-            return Err(Question::Readable.at(at));
-        }
+        ask_record(page, at, self.size())?;
+        let bytes = self
+            .surface
+            .shown(usize::from(at))
+            .ok_or(Question::Readable.at(at))?;
+        page.copy_from_slice(bytes);
         Ok(())
     }
 
@@ -67,9 +69,9 @@ impl<'a> Drive for Card<'a> {
         ensures at_once { of_card self.new ≡ after_post 1 result (of_card self.old) at page.now }
         ensures lent { SameMemory self.old.surface self.new.surface }
     {
-        ask_address(page.len(), at, self.size())?;
-        ask_room(CardKind::DEPTH, CardKind::LIFE, 0, self.wear, at)?;
-        self.settle(at, page);
+        let bytes = ask_record(page, at, self.size())?;
+        ask_room::<CardKind>(0, self.wear, at)?;
+        self.settle(at, bytes);
         Ok(())
     }
 

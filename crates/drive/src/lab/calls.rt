@@ -6,9 +6,10 @@ ghost use Rattle.drive.specs.Formed.{held_formed};
 ghost use Rattle.drive.specs.Kinds.{of_lab};
 ghost use Rattle.drive.specs.Meaning.{owed, complete};
 ghost use Rattle.drive.specs.Pace.{next_pace, paced, paced_post, paced_step, pace_after_post, pace_after_step};
-ghost use Rattle.drive.specs.Surfaces.{states, SameMemory};
+ghost use Rattle.drive.specs.Surfaces.{states};
+ghost use Rattle.drive.specs.Disks.{SameMemory};
 
-use crate::asking::{ask_address, ask_room};
+use crate::asking::{ask_record, ask_room};
 use crate::backlog::Backlog;
 use crate::device::{Drive, Kind};
 use crate::fault::{Fault, Question};
@@ -53,13 +54,12 @@ impl<'a> Drive for Lab<'a> {
 
     ghost meaning = { of_lab };
 
-    ghost formed = { λ l. held_formed l.backlog l.wear l.kept };
+    ghost formed = { λ l. held_formed l.backlog l.wear };
 
     fn read(&self, at: u16, page: &mut [u8]) -> Result<(), Fault> {
-        ask_address(page.len(), at, self.size())?;
-        if !self.backlog.fetch(at, page) {
-            return Err(Question::Readable.at(at));
-        }
+        ask_record(page, at, self.size())?;
+        let bytes = self.backlog.shown(at).ok_or(Question::Readable.at(at))?;
+        page.copy_from_slice(bytes);
         Ok(())
     }
 
@@ -70,15 +70,9 @@ impl<'a> Drive for Lab<'a> {
         ensures paced { of_lab self.new ≡ after_post (paced_post self.old.pace) result (of_lab self.old) at page.now }
         ensures lent { SameMemory self.old.backlog.surface self.new.backlog.surface }
     {
-        ask_address(page.len(), at, self.size())?;
-        ask_room(
-            LabKind::DEPTH,
-            LabKind::LIFE,
-            self.backlog.len(),
-            self.wear,
-            at,
-        )?;
-        self.backlog.push(at, page);
+        let bytes = ask_record(page, at, self.size())?;
+        ask_room::<LabKind>(self.backlog.len(), self.wear, at)?;
+        self.backlog.push(at, bytes);
         self.wear += 1;
         self.pace = next_pace(self.pace);
         self.backlog.complete(paced(self.pace));

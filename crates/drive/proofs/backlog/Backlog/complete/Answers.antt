@@ -9,11 +9,10 @@ loop-preserved c =
     let one = c.complete_oldest.ensures in
     let so_far = c.loop.invariant in (
       λ w. one.settled w ∙ ap (complete 1) (so_far.0 w) ∙ completing_in_turns (held c.args.self.now w) 1 c.loop.counter,
-      one.kept,
-      (one.lent.0 ∙ so_far.2.0, one.lent.1 ∙ so_far.2.1),
+      (one.lent.0 ∙ so_far.1.0, one.lent.1 ∙ so_far.1.1),
     )
 
 pub returns : goal.returns
 returns c =
     let all : c.loop.counter ≡ c.args.count = omega arith in
-    record { settled = λ w. c.loop.invariant.0 w ∙ ap (λ k. complete k (held c.args.self.now w)) all; kept = c.loop.invariant.1; lent = c.loop.invariant.2 }
+    record { settled = λ w. c.loop.invariant.0 w ∙ ap (λ k. complete k (held c.args.self.now w)) all; lent = c.loop.invariant.1 }

@@ -24,7 +24,7 @@ pub invariant_of-self : goal.invariant_of-self
 invariant_of-self c =
     let l = c.args.self.now in
     let fewer = owed_complete (held l.backlog 0) (held c.complete.new.self 0) c.max.result (c.complete.ensures.settled 0) in
-    record { kept = c.complete.ensures.kept; worn = l.worn; few = omega (arith, fewer, l.few) }
+    record { worn = l.worn; few = omega (arith, fewer, l.few) }
 
 pub returns : goal.returns
 returns c =

@@ -1,0 +1,25 @@
+use Rattle.std.proofs.Common.{◌≡◌, ◌+◌, ◌-◌, ◌*◌, ap, take, drop, arith, rules}
+use Rattle.drive.proofs.SurfaceLaws.{room, spoiled_shown, record_shown}
+use Rattle.drive.proofs.surface.Surface.shown.Goals as goal
+
+pub bounds-self-at : goal.bounds-self-at
+bounds-self-at c = let s = c.args.self.now in omega (arith, room s.bytes.now s.marks.now c.args.at c.requires)
+
+pub returns-then-self-at-ne0 : goal.returns-then-self-at-ne0
+returns-then-self-at-ne0 c = search (rules, spoiled_shown)
+
+pub overflow_mul-from : goal.overflow_mul-from
+overflow_mul-from c = search (rules, room)
+
+pub overflow_add-from : goal.overflow_add-from
+overflow_add-from c = search (rules, room)
+
+pub slice_bounds-as_array-end : goal.slice_bounds-as_array-end
+slice_bounds-as_array-end c = search (rules, room)
+
+pub returns : goal.returns
+returns c =
+    let s = c.args.self.now in
+    let long : c.args.at * 512 + 512 - c.args.at * 512 ≡ 512 = omega arith in
+    let part = ap (λ n. take n (drop (c.args.at * 512) s.bytes.now)) long in
+    record_shown s.bytes.now s.marks.now _ c.args.at c.as_array.result part c.requires c.if-self-at-ne0.false c.as_array.ensures.cases
