@@ -1,5 +1,5 @@
 // The questions that every kind of drive puts, in their order.
-ghost use Rattle.std.specs.Prelude.{◌≡◌, IfOk, length};
+ghost use Rattle.std.specs.Prelude.{◌≡◌, ◌<◌, IfOk, OnOk, length};
 ghost use Rattle.drive.specs.Answers.{address_answer, room_answer};
 ghost use Rattle.drive.specs.Faults.{said, answered};
 
@@ -22,7 +22,8 @@ pub fn ask_record(page: &[u8], at: u16, size: usize) -> Result<&[u8; 512], Fault
 
 // Has a drive of this kind room for one more write, and life for it?
 pub fn ask_room<K: Kind>(owed: usize, wear: u32, at: u16) -> Result<(), Fault>
-    ensures { said result ≡ room_answer K.DEPTH K.LIFE owed wear at }
+    ensures answer { said result ≡ room_answer K.DEPTH K.LIFE owed wear at }
+    ensures counted { OnOk result (wear < 4294967295) }
 {
     if owed >= K::DEPTH {
         return Err(Question::Depth.at(at));

@@ -66,7 +66,7 @@ impl<'a> Backlog<'a> {
     {
         match self.youngest(at) {
             Some(youngest) => Some(&youngest.bytes),
-            None => self.surface.shown(usize::from(at)),
+            None => self.surface.shown(at),
         }
     }
 
@@ -86,7 +86,7 @@ impl<'a> Backlog<'a> {
         ensures lent { SameMemory self.old.surface self.new.surface }
     {
         if let Some(oldest) = self.queue.pop_at(0) {
-            self.surface.settle(usize::from(oldest.at), &oldest.bytes);
+            self.surface.settle(oldest.at, &oldest.bytes);
         }
     }
 

@@ -48,10 +48,11 @@ impl<'a> Surface<'a> {
     }
 
     // A record's bytes, unless it is spoiled.
-    pub fn shown(&self, at: usize) -> Option<&[u8; 512]>
+    pub fn shown(&self, at: u16) -> Option<&[u8; 512]>
         requires { at < length (disk self.now) }
         ensures { record_state result ≡ slice_index_or (disk self.now) at spoiled }
     {
+        let at = usize::from(at);
         if self.marks[at] != 0 {
             return None;
         }
@@ -60,11 +61,12 @@ impl<'a> Surface<'a> {
     }
 
     // Writes a record, which then is readable.
-    pub fn settle(&mut self, at: usize, bytes: &[u8; 512])
+    pub fn settle(&mut self, at: u16, bytes: &[u8; 512])
         requires { at < length (disk self.old) }
         ensures records { disk self.new ≡ slice_set (disk self.old) at (readable bytes.now) }
         ensures lent { SameMemory self.old self.new }
     {
+        let at = usize::from(at);
         let from = at * RECORD;
         self.bytes[from..from + RECORD].copy_from_slice(bytes);
         self.marks[at] = 0;

@@ -34,7 +34,7 @@ impl<'a> Card<'a> {
         ensures at_once { of_card self.new ≡ complete 1 (posted (of_card self.old) at bytes.now) }
         ensures lent { SameMemory self.old.surface self.new.surface }
     {
-        self.surface.settle(usize::from(at), bytes);
+        self.surface.settle(at, bytes);
         self.wear += 1;
     }
 
@@ -55,10 +55,7 @@ impl<'a> Drive for Card<'a> {
 
     fn read(&self, at: u16, page: &mut [u8]) -> Result<(), Fault> {
         ask_record(page, at, self.size())?;
-        let bytes = self
-            .surface
-            .shown(usize::from(at))
-            .ok_or(Question::Readable.at(at))?;
+        let bytes = self.surface.shown(at).ok_or(Question::Readable.at(at))?;
         page.copy_from_slice(bytes);
         Ok(())
     }

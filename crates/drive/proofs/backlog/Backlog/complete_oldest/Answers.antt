@@ -1,8 +1,7 @@
-use Rattle.std.proofs.Common.{length, ◌∷◌, set, ap, ◌∙◌, sym, refl, arith}
+use Rattle.std.proofs.Common.{length, ◌∷◌, ap, ◌∙◌, sym, refl}
 use Rattle.std.proofs.lemmas.List.{length-set}
 use Rattle.drive.specs.Disks.{disk}
 use Rattle.drive.specs.Backlogs.{held}
-use Rattle.drive.specs.Meaning.{readable}
 use Rattle.drive.specs.Queues.{write_of, line}
 use Rattle.drive.proofs.BacklogLaws.{below_first, below_rest, settled_oldest}
 use Rattle.drive.proofs.MeaningLaws.{complete_none}
@@ -13,8 +12,7 @@ pub settle-requires : goal.settle-requires
 settle-requires c =
     let b = c.args.self.now in
     let first = ap line (oldest_first b.queue.items c.in-Some.oldest c.in-Some.ensures.value) in
-    let within = below_first (length (disk b.surface)) (line b.queue.items) _ _ first b.inside in
-    omega (arith, c.from.ensures, within)
+    below_first (length (disk b.surface)) (line b.queue.items) _ _ first b.inside
 
 pub invariant_of-self : goal.invariant_of-self
 invariant_of-self c =
@@ -28,7 +26,7 @@ returns-in-Some c =
     let b = c.args.self.now in
     let first = ap line (oldest_first b.queue.items c.in-Some.oldest c.in-Some.ensures.value) in
     let rest = first ∙ sym (ap (λ qs. write_of c.in-Some.oldest ∷ line qs) c.in-Some.ensures.items) in
-    record { settled = settled_oldest (disk b.surface) _ _ _ _ rest (c.settle.ensures.records ∙ ap (λ a. set (disk b.surface) a (readable c.in-Some.oldest.bytes)) c.from.ensures); lent = c.settle.ensures.lent }
+    record { settled = settled_oldest (disk b.surface) _ _ _ _ rest c.settle.ensures.records; lent = c.settle.ensures.lent }
 
 pub returns-in_default : goal.returns-in_default
 returns-in_default c =

@@ -14,5 +14,5 @@ pub returns-in-None : goal.returns-in-None
 returns-in-None c =
     let b = c.args.self.now in
     let s = get_or (disk b.surface) c.args.at spoiled in
-    c.shown.ensures ∙ ap (λ a. get_or (disk b.surface) a spoiled) c.from.ensures
+    c.shown.ensures
     ∙ ap (λ o. found_state o s) c.in-None.ensures ∙ sym (youngest-line b.queue.items c.args.at s)
