@@ -92,8 +92,8 @@ pub writes_complete_oldest_first : WritesCompleteOldestFirst
 writes_complete_oldest_first m j k = (sym (take-append-drop k m.outstanding), completing_in_turns m j k)
 
 -- the oldest k completed after a post
-pub completed_posted : (m p n : Meaning) (k j a : ℕ) (bs : List ℕ) → n ≡ complete k p → p ≡ posted m a bs → k ≡ j → n ≡ complete j (posted m a bs)
-completed_posted m p n k j a bs e f same = e ∙ (λ i. complete (same i) (f i))
+pub completed_posted : (m p n : Meaning) (k j a : ℕ) (bs page : List ℕ) → n ≡ complete k p → p ≡ posted m a bs → bs ≡ page → k ≡ j → n ≡ complete j (posted m a page)
+completed_posted m p n k j a bs page e f same_page same = e ∙ (λ i. complete (same i) (f i)) ∙ ap (λ b. complete j (posted m a b)) same_page
 
 pub owed_complete : (m n : Meaning) (k : ℕ) → n ≡ complete k m → owed n ≤ owed m
 owed_complete m n k e = omega (arith, ap owed e, length-drop k m.outstanding)

@@ -1,6 +1,6 @@
 -- The writes that a queue holds.
-use Rattle.std.proofs.Common.{◌≡◌, ℕ, Bool, true, false, cond, eqb, List, [], ◌∷◌, ◌||◌, Option, Some, None, reverse, drop, ap, ◌∙◌, sym, refl}
-use Rattle.std.specs.List.{list_any, find, slice_get}
+use Rattle.std.proofs.Common.{◌≡◌, ℕ, Bool, true, false, cond, eqb, List, [], ◌∷◌, ◌||◌, Option, Some, None, reverse, ap, ◌∙◌, sym, refl}
+use Rattle.std.specs.List.{list_any, find}
 use Rattle.std.specs.Option.{option_or}
 use Rattle.std.proofs.lemmas.List.{reverse-append}
 use Rattle.std.proofs.lemmas.List.Folds.{find-append}
@@ -11,15 +11,6 @@ use Rattle.drive.specs.Queues.{line}
 pub any_to-line : (qs : List Queued) (a : ℕ) → any_to (line qs) a ≡ list_any (λ q. eqb q.at a) qs
 any_to-line [] a = refl
 any_to-line (q ∷ qs) a = ap (λ b. eqb q.at a || b) (any_to-line qs a)
-
--- the oldest, where there is one
-pub oldest_first : (qs : List Queued) (q : Queued) → Some q ≡ slice_get qs 0 → qs ≡ q ∷ drop 1 qs
-oldest_first [] q e = cc
-oldest_first (x ∷ qs) q e = let same : x ≡ q = cc in ap (λ y. y ∷ qs) same
-
-pub none_first : (qs : List Queued) → None ≡ slice_get qs 0 → qs ≡ []
-none_first [] e = refl
-none_first (x ∷ qs) e = cc
 
 -- what a write that was found shows, or else s
 abbrev pub found_state : Option Queued → State → State

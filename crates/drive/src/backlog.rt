@@ -80,23 +80,15 @@ impl<'a> Backlog<'a> {
         self.queue.push(Queued { at, bytes: *bytes });
     }
 
-    // Settles the oldest write, if there is one.
-    pub fn complete_oldest(&mut self)
-        ensures settled { (w : ℕ) → held self.new w ≡ complete 1 (held self.old w) }
-        ensures lent { SameMemory self.old.surface self.new.surface }
-    {
-        if let Some(oldest) = self.queue.pop_at(0) {
-            self.surface.settle(oldest.at, &oldest.bytes);
-        }
-    }
-
     // Settles the oldest `count` writes, or all where there are fewer.
     pub fn complete(&mut self, count: usize)
         ensures settled { (w : ℕ) → held self.new w ≡ complete count (held self.old w) }
         ensures lent { SameMemory self.old.surface self.new.surface }
     {
-        for _ in 0..count {
-            self.complete_oldest();
+        let count = count.min(self.queue.len());
+        for write in &self.queue[..count] {
+            self.surface.settle(write.at, &write.bytes);
         }
+        self.queue.drain(..count);
     }
 }

@@ -1,6 +1,6 @@
 // Records of 512 bytes that lie in bytes handed in, with a mark byte for each: not 0 where the record is spoiled.
 ghost use Rattle.std.specs.Prelude.{◌≡◌, ◌<◌, true, length, slice_index_or, slice_set};
-ghost use Rattle.drive.specs.Each.{each, all_bytes, holds_bytes};
+ghost use Rattle.drive.specs.Each.{each, holds_bytes};
 ghost use Rattle.drive.specs.Meaning.{readable, spoiled};
 ghost use Rattle.drive.specs.Surfaces.{extent, states};
 
@@ -14,13 +14,6 @@ pub struct Surface<'a> {
     bytes: &'a mut [u8],
     marks: &'a mut [u8],
     ghost sized: { each holds_bytes (states bytes.now marks.now) ≡ true },
-}
-
-// States what the type says, each byte is below 256: the prover knows it once the slice is looked at.
-fn bytes_fit(bytes: &[u8])
-    ensures { all_bytes bytes.now ≡ true }
-{
-    let _ = bytes.is_empty();
 }
 
 // How many records there are in so many bytes with so many marks.
@@ -37,7 +30,6 @@ impl<'a> Surface<'a> {
         ensures records { disk result ≡ states bytes.old marks.old }
         ensures lent { (result.bytes.ghost_name ≡ bytes.entry.ghost_name) × (result.marks.ghost_name ≡ marks.entry.ghost_name) }
     {
-        bytes_fit(bytes);
         Surface { bytes, marks }
     }
 

@@ -1,6 +1,5 @@
-use Rattle.std.proofs.Common.{◌+◌, ap, ◌∙◌, arith, rules}
+use Rattle.std.proofs.Common.{◌+◌, ◌∙◌, arith, rules}
 use Rattle.drive.specs.Backlogs.{held}
-use Rattle.drive.specs.Meaning.{posted}
 use Rattle.drive.proofs.AnswerLaws.{room_passed}
 use Rattle.drive.proofs.MeaningLaws.{completed_posted, owed_complete, owed_posted}
 use Rattle.drive.proofs.buffered.BufferedDrive.post.Goals as goal
@@ -19,11 +18,10 @@ invariant_of-self g c =
 pub returns : goal.returns
 returns g c =
     let d = c.args.self.now in
-    let waits = c.push.ensures.waits d.wear ∙ ap (posted (held d.backlog d.wear) c.args.at) c.in_ok-bytes.ensures.bytes in
     let done =
     completed_posted (held d.backlog d.wear) (held c.push.new.self (d.wear + 1)) (held c.complete.new.self (d.wear + 1))
-    c.post-count.result (g.P.Pace.in_post d.pace) c.args.at c.args.page.now
-    (c.complete.ensures.settled (d.wear + 1)) waits c.post-count.ensures.count in
+    c.post-count.result (g.P.Pace.in_post d.pace) c.args.at c.in_ok-bytes.bytes.now c.args.page.now
+    (c.complete.ensures.settled (d.wear + 1)) (c.push.ensures.waits d.wear) c.in_ok-bytes.ensures.bytes c.post-count.ensures.count in
     record {
       answer = search rules;
       after = (g.P.Pace.in_post d.pace, done);
