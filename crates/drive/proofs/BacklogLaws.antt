@@ -1,10 +1,10 @@
 -- Writes that are put to a backlog and settled from it.
-use Rattle.std.proofs.Common.{◌≡◌, ℕ, zero, suc, ◌+◌, ◌<◌, min, true, ltb, List, [], ◌∷◌, ◌++◌, length, get_or, take, drop, set, sym, refl, ap, ◌∙◌, ⊎_elim, arith}
-use Rattle.std.proofs.lemmas.List.{take_more, take_all, drop_all, take-map, drop-map, map_push, get_or-take, length-take, length-map}
+use Rattle.std.proofs.Common.{◌≡◌, ℕ, zero, suc, ◌<◌, min, true, ltb, List, [], ◌∷◌, ◌++◌, length, get_or, take, drop, sym, refl, ap, ◌∙◌, ⊎_elim, arith}
+use Rattle.std.proofs.lemmas.List.{take_all, drop_all, take-map, drop-map, get_or-take, length-take, length-map}
 use Rattle.std.proofs.lemmas.Bool.{cases_lt, lt-ltb, ltb-true}
 use Rattle.drive.specs.declared.queued.Queued.{Queued}
 use Rattle.drive.specs.Each.{all_below}
-use Rattle.drive.specs.Meaning.{State, readable, Write, Meaning, settle, complete}
+use Rattle.drive.specs.Meaning.{State, Write, Meaning, settle, complete}
 use Rattle.drive.specs.Queues.{write_of, line}
 use Rattle.drive.proofs.EachLaws.{each_push, each_parts}
 
@@ -37,18 +37,6 @@ below_item n k i qs part q e lt is h =
     let same : q.at ≡ (get_or qs i q).at = ap (λ x. x.at) here.1 in
     let below = below_at n qs i q here.0 h in
     omega arith
-
-settle_push : (ws : List Write) (w : Write) (ss : List State) → settle (ws ++ (w ∷ [])) ss ≡ set (settle ws ss) w.at (readable w.bytes)
-settle_push [] w ss = refl
-settle_push (v ∷ ws) w ss = settle_push ws w (set ss v.at (readable v.bytes))
-
--- one write more is settled
-pub settled_more : (ss before after : List State) (k i : ℕ) (qs part : List Queued) (q : Queued) → part ≡ take k qs → i < length part → q ≡ get_or part i q → before ≡ settle (line (take i qs)) ss → after ≡ set before q.at (readable q.bytes) → after ≡ settle (line (take (i + 1) qs)) ss
-settled_more ss before after k i qs part q e lt is so_far now =
-    let here = in_part k i qs part q e lt is in
-    let longer : line (take (i + 1) qs) ≡ line (take i qs) ++ (write_of q ∷ []) =
-    ap line (take_more qs i q here.0) ∙ map_push write_of (take i qs) (get_or qs i q) ∙ ap (λ x. line (take i qs) ++ (write_of x ∷ [])) (sym here.1) in
-    now ∙ ap (λ l. set l q.at (readable q.bytes)) so_far ∙ sym (settle_push (line (take i qs)) (write_of q) ss) ∙ ap (λ l. settle l ss) (sym longer)
 
 front_line : (qs : List Queued) (count : ℕ) → line (take (min count (length qs)) qs) ≡ take count (line qs)
 front_line qs count =

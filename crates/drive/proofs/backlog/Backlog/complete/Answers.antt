@@ -1,7 +1,7 @@
 use Rattle.std.proofs.Common.{◌≡◌, min, length, take, ap, ◌∙◌, lit<, arith}
 use Rattle.drive.specs.Disks.{disk}
 use Rattle.drive.specs.Queues.{line}
-use Rattle.drive.proofs.BacklogLaws.{below_item, below_rest, settled_more, completed}
+use Rattle.drive.proofs.BacklogLaws.{below_item, below_rest, completed}
 use Rattle.drive.proofs.MeaningLaws.{length_settle}
 use Rattle.drive.proofs.backlog.Backlog.complete.Goals as goal
 
@@ -12,28 +12,16 @@ settle-requires c =
     let within = below_item (length (disk b.surface)) c.min-count.result c.loop-write.write-index b.queue.items _ c.write-item.result (ap (take c.min-count.result) c.deref.ensures.0) c.loop-write-test.true c.write-item.is b.inside in
     omega (arith, size, within)
 
-pub loop-write-preserved : goal.loop-write-preserved
-loop-write-preserved c =
-    let b = c.args.self.now in
-    let so_far = c.loop-write.invariant in
-    record {
-      settled = settled_more (disk b.surface) _ _ c.min-count.result c.loop-write.write-index b.queue.items _ c.write-item.result (ap (take c.min-count.result) c.deref.ensures.0) c.loop-write-test.true c.write-item.is so_far.settled c.settle.ensures.records;
-      lent = (c.settle.ensures.lent.0 ∙ so_far.lent.0, c.settle.ensures.lent.1 ∙ so_far.lent.1);
-    }
-
 pub invariant_of-self-2 : goal.invariant_of-self-2
 invariant_of-self-2 c =
     let b = c.args.self.now in
     let size = ap length c.loop-write.invariant.settled ∙ length_settle (line (take c.loop-write.write-index b.queue.items)) (disk b.surface) in
     record { inside = below_rest (length (disk b.surface)) _ c.min-count.result b.queue.items _ (c.drop-drain.ensures (lit< tt) ∙ c.drain.ensures.kept) size b.inside }
 
-pub returns : goal.returns
-returns c =
+pub returns-clause-settled : goal.returns-clause-settled
+returns-clause-settled c =
     let b = c.args.self.now in
     let few : c.min-count.result ≡ min c.args.count (length b.queue.items) = c.min-count.ensures ∙ ap (min c.args.count) c.len.ensures.value in
     let all : c.loop-write.write-index ≡ length (take c.min-count.result c.deref.result.now) = omega arith in
     let rest = c.drop-drain.ensures (lit< tt) ∙ c.drain.ensures.kept in
-    record {
-      settled = completed (disk b.surface) _ b.queue.items _ _ c.args.count c.min-count.result c.loop-write.write-index few (ap (take c.min-count.result) c.deref.ensures.0) all c.loop-write.invariant.settled rest;
-      lent = c.loop-write.invariant.lent;
-    }
+    completed (disk b.surface) _ b.queue.items _ _ c.args.count c.min-count.result c.loop-write.write-index few (ap (take c.min-count.result) c.deref.ensures.0) all c.loop-write.invariant.settled rest

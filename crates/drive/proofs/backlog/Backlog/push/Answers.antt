@@ -1,6 +1,5 @@
-use Rattle.std.proofs.Common.{◌+◌, ap, ◌∙◌, refl}
+use Rattle.std.proofs.Common.{ap, ◌∙◌}
 use Rattle.std.proofs.lemmas.List.{map_push}
-use Rattle.drive.specs.Disks.{disk}
 use Rattle.drive.specs.Queues.{write_of, line}
 use Rattle.drive.proofs.EachLaws.{all_bytes_from}
 use Rattle.drive.proofs.BacklogLaws.{below_push}
@@ -14,9 +13,3 @@ invariant_of-self c =
     let b = c.args.self.now in
     let longer = ap line c.push.ensures.items ∙ map_push write_of b.queue.items _ in
     record { inside = below_push _ (line b.queue.items) _ _ longer c.requires.within b.inside }
-
-pub returns : goal.returns
-returns c =
-    let b = c.args.self.now in
-    let longer = ap line c.push.ensures.items ∙ map_push write_of b.queue.items _ in
-    record { waits = λ w i. record { settled = disk b.surface; outstanding = longer i; wear = w + 1 }; lent = (refl, refl) }

@@ -4,9 +4,6 @@ use Rattle.drive.proofs.AnswerLaws.{room_passed}
 use Rattle.drive.proofs.MeaningLaws.{completed_posted, owed_complete, owed_posted}
 use Rattle.drive.proofs.buffered.BufferedDrive.post.Goals as goal
 
-pub overflow_add-self : goal.overflow_add-self
-overflow_add-self g c = omega (arith, c.in_ok-ask_room.ensures.counted)
-
 pub invariant_of-self : goal.invariant_of-self
 invariant_of-self g c =
     let d = c.args.self.now in

@@ -1,14 +1,8 @@
-use Rattle.std.proofs.Common.{◌<◌, length, set, ap, ◌∙◌, refl, arith, rules}
+use Rattle.std.proofs.Common.{◌<◌, length, set, ap, ◌∙◌, arith, rules}
 use Rattle.drive.specs.Disks.{disk}
 use Rattle.drive.specs.Meaning.{readable}
 use Rattle.drive.proofs.SurfaceLaws.{room, states_put, put_sized, settled_sized}
 use Rattle.drive.proofs.surface.Surface.settle.Goals as goal
-
-pub overflow_mul-from : goal.overflow_mul-from
-overflow_mul-from c = search (rules, room)
-
-pub overflow_add-from : goal.overflow_add-from
-overflow_add-from c = search (rules, room)
 
 pub slice_bounds-copy_from_slice-end : goal.slice_bounds-copy_from_slice-end
 slice_bounds-copy_from_slice-end c = search (rules, room)
@@ -29,9 +23,9 @@ invariant_of-self-2 c =
     let put = states_put s.bytes.now s.marks.now c.args.bytes.now _ c.from-at.result _ (omega arith) c.copy_from_slice.ensures.after c.told-bytes within in
     record { sized = settled_sized (disk s) _ c.from-at.result c.args.bytes.now put c.fits-bytes s.sized }
 
-pub returns : goal.returns
-returns c =
+pub returns-clause-records : goal.returns-clause-records
+returns-clause-records c =
     let s = c.args.self.now in
     let within : c.from-at.result < length (disk s) = omega (arith, c.from-at.ensures) in
     let put = states_put s.bytes.now s.marks.now c.args.bytes.now _ c.from-at.result _ (omega arith) c.copy_from_slice.ensures.after c.told-bytes within in
-    record { records = put ∙ ap (λ a. set (disk s) a (readable c.args.bytes.now)) c.from-at.ensures; lent = (refl, refl) }
+    put ∙ ap (λ a. set (disk s) a (readable c.args.bytes.now)) c.from-at.ensures

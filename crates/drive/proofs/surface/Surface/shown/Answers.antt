@@ -10,12 +10,6 @@ bounds-self-at c = let s = c.args.self.now in omega (arith, room s.bytes.now s.m
 pub returns-then-self-at-ne0 : goal.returns-then-self-at-ne0
 returns-then-self-at-ne0 c = search (rules, spoiled_shown)
 
-pub overflow_mul-from : goal.overflow_mul-from
-overflow_mul-from c = search (rules, room)
-
-pub overflow_add-from : goal.overflow_add-from
-overflow_add-from c = search (rules, room)
-
 pub slice_bounds-as_array-end : goal.slice_bounds-as_array-end
 slice_bounds-as_array-end c = search (rules, room)
 
