@@ -12,8 +12,12 @@ use Rattle.drive.specs.Disks.{disk}
 abbrev pub of_card : Card → Meaning
 of_card c = record { settled = disk c.surface; outstanding = []; wear = c.wear }
 
+-- a drive whose writes wait, at any pace
+abbrev pub of_buffered : {P O : Type 0} {pace : _} {kind : _} → Buffered P O pace kind → Meaning
+of_buffered d = held d.backlog d.wear
+
 abbrev pub of_cabinet : {O : Type 0} {pace : _} {kind : _} → Buffered Steady O pace kind → Meaning
-of_cabinet c = held c.backlog c.wear
+of_cabinet c = of_buffered c
 
 abbrev pub of_lab : {O : Type 0} {pace : _} {kind : _} → Buffered LabPace O pace kind → Meaning
-of_lab l = held l.backlog l.wear
+of_lab l = of_buffered l

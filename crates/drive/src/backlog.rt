@@ -5,7 +5,7 @@ ghost use Rattle.std.specs.Option.{option_copied};
 ghost use Rattle.drive.specs.Queues.{line};
 ghost use Rattle.drive.specs.Each.{all_below};
 ghost use Rattle.drive.specs.Meaning.{readable, size, owed, shown, pending, posted, complete};
-ghost use Rattle.drive.specs.Disks.{disk, record_state, SameMemory};
+ghost use Rattle.drive.specs.Disks.{disk, record_state, SameMemory, WorksIn};
 ghost use Rattle.drive.specs.Surfaces.{states};
 
 use crate::queued::Queued;
@@ -25,7 +25,7 @@ impl<'a> Backlog<'a> {
     pub fn new(bytes: &'a mut [u8], marks: &'a mut [u8]) -> Self
         ensures settled { disk result.surface ≡ states bytes.old marks.old }
         ensures empty { line result.queue.items ≡ [] }
-        ensures lent { (result.surface.bytes.ghost_name ≡ bytes.entry.ghost_name) × (result.surface.marks.ghost_name ≡ marks.entry.ghost_name) }
+        ensures lent { WorksIn result.surface bytes.entry marks.entry }
     {
         Backlog {
             surface: Surface::new(bytes, marks),

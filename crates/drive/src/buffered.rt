@@ -18,14 +18,15 @@ pub struct Buffered<'a, P: Pace> {
 }
 
 impl<'a, P: Pace> Buffered<'a, P> {
-    ghost use Rattle.drive.specs.Backlogs.{held};
+    ghost use Rattle.drive.specs.Disks.{WorksIn};
+    ghost use Rattle.drive.specs.Kinds.{of_buffered};
     ghost use Rattle.drive.specs.Surfaces.{states};
 
     // A drive over these bytes and marks; a wear above the life counts as the life.
     pub(crate) fn over(bytes: &'a mut [u8], marks: &'a mut [u8], wear: u32, pace: P) -> Self
-        ensures empty { held result.backlog result.wear ≡ record { settled = states bytes.old marks.old; outstanding = []; wear = min wear P.Of.LIFE } }
+        ensures empty { of_buffered result ≡ record { settled = states bytes.old marks.old; outstanding = []; wear = min wear P.Of.LIFE } }
         ensures pace { result.pace ≡ pace }
-        ensures lent { (result.backlog.surface.bytes.ghost_name ≡ bytes.entry.ghost_name) × (result.backlog.surface.marks.ghost_name ≡ marks.entry.ghost_name) }
+        ensures lent { WorksIn result.backlog.surface bytes.entry marks.entry }
     {
         Buffered {
             backlog: Backlog::new(bytes, marks),
@@ -37,16 +38,16 @@ impl<'a, P: Pace> Buffered<'a, P> {
 
 impl<'a, P: Pace> Drive for Buffered<'a, P> {
     ghost use Rattle.drive.specs.Answers.{post_answer, PostLeaves, after_post, Steps};
-    ghost use Rattle.drive.specs.Backlogs.{held};
     ghost use Rattle.drive.specs.Disks.{SameMemory};
     ghost use Rattle.drive.specs.Faults.{said};
     ghost use Rattle.drive.specs.Formed.{held_formed};
+    ghost use Rattle.drive.specs.Kinds.{of_buffered};
     ghost use Rattle.drive.specs.Meaning.{owed, complete};
     ghost use Rattle.drive.specs.Pace.{after_accepted, after_finding};
 
     type Of = P::Of;
 
-    ghost meaning = { λ d. held d.backlog d.wear };
+    ghost meaning = { of_buffered };
 
     ghost formed = { λ d. held_formed d.backlog d.wear };
 
@@ -58,10 +59,10 @@ impl<'a, P: Pace> Drive for Buffered<'a, P> {
     }
 
     fn post(&mut self, at: u16, page: &[u8]) -> Result<(), Fault>
-        ensures answer { said result ≡ post_answer P.Of.DEPTH P.Of.LIFE (held self.old.backlog self.old.wear) at (length page.now) }
-        ensures after { PostLeaves result (held self.old.backlog self.old.wear) at page.now (held self.new.backlog self.new.wear) }
+        ensures answer { said result ≡ post_answer P.Of.DEPTH P.Of.LIFE (of_buffered self.old) at (length page.now) }
+        ensures after { PostLeaves result (of_buffered self.old) at page.now (of_buffered self.new) }
         ensures pace { self.new.pace ≡ after_accepted P.next result self.old.pace }
-        ensures completes { held self.new.backlog self.new.wear ≡ after_post (P.in_post self.old.pace) result (held self.old.backlog self.old.wear) at page.now }
+        ensures completes { of_buffered self.new ≡ after_post (P.in_post self.old.pace) result (of_buffered self.old) at page.now }
         ensures lent { SameMemory self.old.backlog.surface self.new.backlog.surface }
     {
         let bytes = ask_record(page, at, self.size())?;
@@ -74,10 +75,10 @@ impl<'a, P: Pace> Drive for Buffered<'a, P> {
     }
 
     fn step(&mut self) -> usize
-        ensures after { Steps (held self.old.backlog self.old.wear) (held self.new.backlog self.new.wear) }
-        ensures remain { result ≡ owed (held self.new.backlog self.new.wear) }
-        ensures pace { self.new.pace ≡ after_finding P.next (owed (held self.old.backlog self.old.wear)) self.old.pace }
-        ensures completes { held self.new.backlog self.new.wear ≡ complete (P.in_step self.old.pace) (held self.old.backlog self.old.wear) }
+        ensures after { Steps (of_buffered self.old) (of_buffered self.new) }
+        ensures remain { result ≡ owed (of_buffered self.new) }
+        ensures pace { self.new.pace ≡ after_finding P.next (owed (of_buffered self.old)) self.old.pace }
+        ensures completes { of_buffered self.new ≡ complete (P.in_step self.old.pace) (of_buffered self.old) }
         ensures lent { SameMemory self.old.backlog.surface self.new.backlog.surface }
     {
         if self.backlog.len() == 0 {

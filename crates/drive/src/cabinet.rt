@@ -34,13 +34,14 @@ impl Pace for Steady {
 pub type Cabinet<'a> = Buffered<'a, Steady>;
 
 impl<'a> Buffered<'a, Steady> {
+    ghost use Rattle.drive.specs.Disks.{WorksIn};
     ghost use Rattle.drive.specs.Kinds.{of_cabinet};
     ghost use Rattle.drive.specs.Surfaces.{states};
 
     // A cabinet over these bytes and marks; a wear above the life counts as the life.
     pub fn new(bytes: &'a mut [u8], marks: &'a mut [u8], wear: u32) -> Self
         ensures empty { of_cabinet result ≡ record { settled = states bytes.old marks.old; outstanding = []; wear = min wear 1000000 } }
-        ensures lent { (result.backlog.surface.bytes.ghost_name ≡ bytes.entry.ghost_name) × (result.backlog.surface.marks.ghost_name ≡ marks.entry.ghost_name) }
+        ensures lent { WorksIn result.backlog.surface bytes.entry marks.entry }
     {
         Buffered::over(bytes, marks, wear, Steady {})
     }

@@ -15,13 +15,14 @@ pub struct Card<'a> {
 }
 
 impl<'a> Card<'a> {
+    ghost use Rattle.drive.specs.Disks.{WorksIn};
     ghost use Rattle.drive.specs.Kinds.{of_card};
     ghost use Rattle.drive.specs.Surfaces.{states};
 
     // A card over these bytes and marks; a wear above the life counts as the life.
     pub fn new(bytes: &'a mut [u8], marks: &'a mut [u8], wear: u32) -> Self
         ensures empty { of_card result ≡ record { settled = states bytes.old marks.old; outstanding = []; wear = min wear 4294967295 } }
-        ensures lent { (result.surface.bytes.ghost_name ≡ bytes.entry.ghost_name) × (result.surface.marks.ghost_name ≡ marks.entry.ghost_name) }
+        ensures lent { WorksIn result.surface bytes.entry marks.entry }
     {
         Card {
             surface: Surface::new(bytes, marks),

@@ -58,6 +58,7 @@ impl Pace for LabPace {
 pub type Lab<'a> = Buffered<'a, LabPace>;
 
 impl<'a> Buffered<'a, LabPace> {
+    ghost use Rattle.drive.specs.Disks.{WorksIn};
     ghost use Rattle.drive.specs.Kinds.{of_lab};
     ghost use Rattle.drive.specs.Surfaces.{states};
 
@@ -65,7 +66,7 @@ impl<'a> Buffered<'a, LabPace> {
     pub fn new(bytes: &'a mut [u8], marks: &'a mut [u8], wear: u32, pace: u32) -> Self
         ensures empty { of_lab result ≡ record { settled = states bytes.old marks.old; outstanding = []; wear = min wear 5000 } }
         ensures pace { result.pace.number ≡ pace }
-        ensures lent { (result.backlog.surface.bytes.ghost_name ≡ bytes.entry.ghost_name) × (result.backlog.surface.marks.ghost_name ≡ marks.entry.ghost_name) }
+        ensures lent { WorksIn result.backlog.surface bytes.entry marks.entry }
     {
         Buffered::over(bytes, marks, wear, LabPace { number: pace })
     }

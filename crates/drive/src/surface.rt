@@ -24,11 +24,11 @@ fn extent(bytes: usize, marks: usize) -> usize
 }
 
 impl<'a> Surface<'a> {
-    ghost use Rattle.drive.specs.Disks.{disk, record_state, SameMemory};
+    ghost use Rattle.drive.specs.Disks.{disk, record_state, SameMemory, WorksIn};
 
     pub fn new(bytes: &'a mut [u8], marks: &'a mut [u8]) -> Self
         ensures records { disk result ≡ states bytes.old marks.old }
-        ensures lent { (result.bytes.ghost_name ≡ bytes.entry.ghost_name) × (result.marks.ghost_name ≡ marks.entry.ghost_name) }
+        ensures lent { WorksIn result bytes.entry marks.entry }
     {
         Surface { bytes, marks }
     }
