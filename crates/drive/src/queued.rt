@@ -10,7 +10,7 @@ pub struct Queued {
     ghost sized: { all_bytes bytes ≡ true },
 }
 
-// A place of a queue that holds no write. No derive gives an array of 512 its default.
+// A place of a queue that holds no write. A derive makes no default of a struct with ghost fields.
 impl Default for Queued {
     fn default() -> Self {
         Queued {
