@@ -1,4 +1,4 @@
--- The pace of the lab drive: a number that decides how many writes it completes.
+-- The pace of a drive whose writes wait, and that of the lab drive: a number that decides how many writes it completes.
 use Rattle.std.specs.Prelude.{ℕ, ◌+◌, ◌*◌, ◌/◌, ◌%◌, ◌^◌, max, cond, Ok, Err, Result, ◌==◌}
 
 abbrev pub next_pace : ℕ → ℕ
@@ -25,6 +25,7 @@ after_accepted next (Err f) x = x
 abbrev pub after_finding : {X : Type 0} → (X → X) → ℕ → X → X
 after_finding next n x = cond (n == 0) x (next x)
 
+-- the pace of a lab drive after a post, and after a step
 abbrev pub pace_after_post : {E : Type 0} → Result (Unit {0}) E → ℕ → ℕ
 pace_after_post r x = after_accepted next_pace r x
 
