@@ -25,7 +25,7 @@ impl<D: Drive> Volume<D> {
         meter: u32,
         page: &mut [u8],
     ) -> Result<(), Fault>
-        ensures carried { CarriesOut (rules D.Of.Kind.depth D.Of.Kind.life) (call.create (length page.old) file number meter) (volume_of D.meaning self.old) (volume_of D.meaning self.new) (replied done_reply result) }
+        ensures carried { CarriesOut (rules D.Of.DEPTH D.Of.LIFE) (call.create (length page.old) file number meter) (volume_of D.meaning self.old) (volume_of D.meaning self.new) (replied done_reply result) }
         ensures zero { page.new ≡ replicate (length page.old) 0 }
     {
         let work = Work(page);
@@ -39,7 +39,7 @@ impl<D: Drive> Volume<D> {
         meter: u32,
         page: &mut [u8],
     ) -> Result<(), Fault>
-        ensures { CarriesOut (rules D.Of.Kind.depth D.Of.Kind.life) (call.create (length page.old) file number meter) (volume_of D.meaning self.old) (volume_of D.meaning self.new) (replied done_reply result) }
+        ensures { CarriesOut (rules D.Of.DEPTH D.Of.LIFE) (call.create (length page.old) file number meter) (volume_of D.meaning self.old) (volume_of D.meaning self.new) (replied done_reply result) }
     {
         let page = ask_page(page)?;
         self.memory.ask_phase(Phase::Open)?;
@@ -70,7 +70,7 @@ impl<D: Drive> Volume<D> {
         number: u16,
         page: &mut [u8],
     ) -> Result<(), Fault>
-        ensures carried { CarriesOut (rules D.Of.Kind.depth D.Of.Kind.life) (call.activate (length page.old) file number) (volume_of D.meaning self.old) (volume_of D.meaning self.new) (replied done_reply result) }
+        ensures carried { CarriesOut (rules D.Of.DEPTH D.Of.LIFE) (call.activate (length page.old) file number) (volume_of D.meaning self.old) (volume_of D.meaning self.new) (replied done_reply result) }
         ensures zero { page.new ≡ replicate (length page.old) 0 }
     {
         let work = Work(page);
@@ -78,7 +78,7 @@ impl<D: Drive> Volume<D> {
     }
 
     fn load_entry(&mut self, file: usize, number: u16, page: &mut [u8]) -> Result<(), Fault>
-        ensures { CarriesOut (rules D.Of.Kind.depth D.Of.Kind.life) (call.activate (length page.old) file number) (volume_of D.meaning self.old) (volume_of D.meaning self.new) (replied done_reply result) }
+        ensures { CarriesOut (rules D.Of.DEPTH D.Of.LIFE) (call.activate (length page.old) file number) (volume_of D.meaning self.old) (volume_of D.meaning self.new) (replied done_reply result) }
     {
         let page = ask_page(page)?;
         self.memory.ask_phase(Phase::Open)?;
@@ -98,7 +98,7 @@ impl<D: Drive> Volume<D> {
     // Each Nulled page that has settled is Live from now on, each Leaving one has Left; posts the entry with its Live
     // pages. The page comes back zero.
     pub fn update(&mut self, _pass: &WorkingPass, file: usize, page: &mut [u8]) -> Result<(), Fault>
-        ensures carried { CarriesOut (rules D.Of.Kind.depth D.Of.Kind.life) (call.update (length page.old) file) (volume_of D.meaning self.old) (volume_of D.meaning self.new) (replied done_reply result) }
+        ensures carried { CarriesOut (rules D.Of.DEPTH D.Of.LIFE) (call.update (length page.old) file) (volume_of D.meaning self.old) (volume_of D.meaning self.new) (replied done_reply result) }
         ensures zero { page.new ≡ replicate (length page.old) 0 }
     {
         let work = Work(page);
@@ -106,7 +106,7 @@ impl<D: Drive> Volume<D> {
     }
 
     fn update_entry(&mut self, file: usize, page: &mut [u8]) -> Result<(), Fault>
-        ensures { CarriesOut (rules D.Of.Kind.depth D.Of.Kind.life) (call.update (length page.old) file) (volume_of D.meaning self.old) (volume_of D.meaning self.new) (replied done_reply result) }
+        ensures { CarriesOut (rules D.Of.DEPTH D.Of.LIFE) (call.update (length page.old) file) (volume_of D.meaning self.old) (volume_of D.meaning self.new) (replied done_reply result) }
     {
         let page = ask_page(page)?;
         self.memory.ask_phase(Phase::Open)?;
@@ -121,7 +121,7 @@ impl<D: Drive> Volume<D> {
 
     // The file is unused from now on.
     pub fn deactivate(&mut self, _pass: &WorkingPass, file: usize) -> Result<(), Fault>
-        ensures { CarriesOut (rules D.Of.Kind.depth D.Of.Kind.life) (call.deactivate file) (volume_of D.meaning self.old) (volume_of D.meaning self.new) (replied done_reply result) }
+        ensures { CarriesOut (rules D.Of.DEPTH D.Of.LIFE) (call.deactivate file) (volume_of D.meaning self.old) (volume_of D.meaning self.new) (replied done_reply result) }
     {
         self.memory.deactivate(file)
     }

@@ -37,7 +37,7 @@ impl<D: Drive> Volume<D> {
     // Takes addresses from the map where few are in service, gives some back where many are, and posts the section. The
     // page comes back zero.
     pub fn balance(&mut self, _pass: &WorkingPass, page: &mut [u8]) -> Result<Balanced, Fault>
-        ensures carried { CarriesOut (rules D.Of.Kind.depth D.Of.Kind.life) (call.balance (length page.old)) (volume_of D.meaning self.old) (volume_of D.meaning self.new) (replied balanced_reply result) }
+        ensures carried { CarriesOut (rules D.Of.DEPTH D.Of.LIFE) (call.balance (length page.old)) (volume_of D.meaning self.old) (volume_of D.meaning self.new) (replied balanced_reply result) }
         ensures zero { page.new ≡ replicate (length page.old) 0 }
     {
         let work = Work(page);
@@ -60,7 +60,7 @@ impl<D: Drive> Volume<D> {
 
     // Gives back every address in service of the oldest one's section, and posts the section. The page comes back zero.
     pub fn drain(&mut self, _pass: &ClosingPass, page: &mut [u8]) -> Result<Drained, Fault>
-        ensures carried { CarriesOut (rules D.Of.Kind.depth D.Of.Kind.life) (call.drain (length page.old)) (volume_of D.meaning self.old) (volume_of D.meaning self.new) (replied drained_reply result) }
+        ensures carried { CarriesOut (rules D.Of.DEPTH D.Of.LIFE) (call.drain (length page.old)) (volume_of D.meaning self.old) (volume_of D.meaning self.new) (replied drained_reply result) }
         ensures zero { page.new ≡ replicate (length page.old) 0 }
     {
         let work = Work(page);
@@ -81,7 +81,7 @@ impl<D: Drive> Volume<D> {
     // Steps the drive; once the section that is being written has settled, the map is idle and the unsettled addresses
     // are in service. Answers how many writes are outstanding.
     pub fn poll(&mut self) -> usize
-        ensures { CarriesOutPoll (rules D.Of.Kind.depth D.Of.Kind.life) (volume_of D.meaning self.old) (volume_of D.meaning self.new) result }
+        ensures { CarriesOutPoll (rules D.Of.DEPTH D.Of.LIFE) (volume_of D.meaning self.old) (volume_of D.meaning self.new) result }
     {
         self.advance()
     }
@@ -115,7 +115,7 @@ impl<D: Drive> Volume<D> {
     fn take(&mut self, page: &mut [u8; RECORD]) -> Result<Option<u8>, Fault>
         requires few { length (volume_of D.meaning self.old).memory.service ≤ 7 }
         requires settled { (volume_of D.meaning self.old).memory.unsettled ≡ [] }
-        ensures { ComesTo (take_from (rules D.Of.Kind.depth D.Of.Kind.life) (D.meaning self.old.drive) (volume_of D.meaning self.old).memory (counting_free 0 (volume_of D.meaning self.old).memory.counts)) (volume_of D.meaning self.old) (volume_of D.meaning self.new) (replied (section_or quiet) result) }
+        ensures { ComesTo (take_from (rules D.Of.DEPTH D.Of.LIFE) (D.meaning self.old.drive) (volume_of D.meaning self.old).memory (counting_free 0 (volume_of D.meaning self.old).memory.counts)) (volume_of D.meaning self.old) (volume_of D.meaning self.new) (replied (section_or quiet) result) }
     {
         let Some(k) = self.memory.section_with_free() else {
             return Ok(None);
@@ -131,7 +131,7 @@ impl<D: Drive> Volume<D> {
     // Gives back addresses of the oldest one's section, oldest first, until `left` are in service or that section has no
     // more there; answers the section, or none where nothing is in service.
     fn give(&mut self, left: usize, page: &mut [u8; RECORD]) -> Result<Option<u8>, Fault>
-        ensures { (reply : Reply) → ComesTo (give_oldest (rules D.Of.Kind.depth D.Of.Kind.life) (D.meaning self.old.drive) (volume_of D.meaning self.old).memory left reply (oldest (volume_of D.meaning self.old).memory.service)) (volume_of D.meaning self.old) (volume_of D.meaning self.new) (replied (section_or reply) result) }
+        ensures { (reply : Reply) → ComesTo (give_oldest (rules D.Of.DEPTH D.Of.LIFE) (D.meaning self.old.drive) (volume_of D.meaning self.old).memory left reply (oldest (volume_of D.meaning self.old).memory.service)) (volume_of D.meaning self.old) (volume_of D.meaning self.new) (replied (section_or reply) result) }
     {
         let Some(oldest) = self.memory.service().first().copied() else {
             return Ok(None);
@@ -150,7 +150,7 @@ impl<D: Drive> Volume<D> {
     // Posts section `k` of the map.
     fn post_section(&mut self, k: u8, section: &Section, page: &mut [u8; RECORD]) -> Result<(), Fault>
         requires { k ≤ 16 }
-        ensures answer { said result ≡ post_answer D.Of.Kind.depth D.Of.Kind.life (D.meaning self.old.drive) (1 + k) (length (section_bytes (volume_of D.meaning self.old).memory.id (volume_of D.meaning self.old).memory.entries (size (D.meaning self.old.drive)) k section.now.bits)) }
+        ensures answer { said result ≡ post_answer D.Of.DEPTH D.Of.LIFE (D.meaning self.old.drive) (1 + k) (length (section_bytes (volume_of D.meaning self.old).memory.id (volume_of D.meaning self.old).memory.entries (size (D.meaning self.old.drive)) k section.now.bits)) }
         ensures after { PostLeaves result (D.meaning self.old.drive) (1 + k) (section_bytes (volume_of D.meaning self.old).memory.id (volume_of D.meaning self.old).memory.entries (size (D.meaning self.old.drive)) k section.now.bits) (D.meaning self.new.drive) }
         ensures same { self.new.memory ≡ self.old.memory }
     {

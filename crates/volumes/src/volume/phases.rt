@@ -21,7 +21,7 @@ use record::label::LabelState;
 impl<D: Drive> Volume<D> {
     // A volume on the drive: the phase is shut, the map idle, and nothing is held.
     pub fn attach(drive: D) -> Volume<D>
-        ensures { CarriesOutAttach (rules D.Of.Kind.depth D.Of.Kind.life) (D.meaning drive) (volume_of D.meaning result) }
+        ensures { CarriesOutAttach (rules D.Of.DEPTH D.Of.LIFE) (D.meaning drive) (volume_of D.meaning result) }
     {
         Volume {
             drive,
@@ -47,7 +47,7 @@ impl<D: Drive> Volume<D> {
     // Counts the map's free addresses and posts the label as in use; the phase is open from now on, and the caller may
     // work. The page comes back zero.
     pub fn open(&mut self, page: &mut [u8]) -> Result<WorkingPass, Fault>
-        ensures carried { CarriesOut (rules D.Of.Kind.depth D.Of.Kind.life) (call.open' (length page.old)) (volume_of D.meaning self.old) (volume_of D.meaning self.new) (replied (λ _. done) result) }
+        ensures carried { CarriesOut (rules D.Of.DEPTH D.Of.LIFE) (call.open' (length page.old)) (volume_of D.meaning self.old) (volume_of D.meaning self.new) (replied (λ _. done) result) }
         ensures zero { page.new ≡ replicate (length page.old) 0 }
     {
         let work = Work(page);
@@ -55,7 +55,7 @@ impl<D: Drive> Volume<D> {
     }
 
     fn post_in_use(&mut self, page: &mut [u8]) -> Result<WorkingPass, Fault>
-        ensures { CarriesOut (rules D.Of.Kind.depth D.Of.Kind.life) (call.open' (length page.old)) (volume_of D.meaning self.old) (volume_of D.meaning self.new) (replied (λ _. done) result) }
+        ensures { CarriesOut (rules D.Of.DEPTH D.Of.LIFE) (call.open' (length page.old)) (volume_of D.meaning self.old) (volume_of D.meaning self.new) (replied (λ _. done) result) }
     {
         let page = ask_page(page)?;
         self.memory.ask_phase(Phase::Shut)?;
@@ -71,7 +71,7 @@ impl<D: Drive> Volume<D> {
 
     // Changes the working pass for a closing pass; the phase is closing from now on. A refusal hands the pass back.
     pub fn close(&mut self, pass: WorkingPass) -> Result<ClosingPass, (WorkingPass, Fault)>
-        ensures carried { CarriesOut (rules D.Of.Kind.depth D.Of.Kind.life) call.close (volume_of D.meaning self.old) (volume_of D.meaning self.new) (replied_with (λ _. done) result) }
+        ensures carried { CarriesOut (rules D.Of.DEPTH D.Of.LIFE) call.close (volume_of D.meaning self.old) (volume_of D.meaning self.new) (replied_with (λ _. done) result) }
         ensures back { HandsBack result pass }
     {
         match self.memory.close() {
@@ -85,7 +85,7 @@ impl<D: Drive> Volume<D> {
 
     // Posts the label as closed; the phase is shut from now on. A refusal hands the pass back. The page comes back zero.
     pub fn finish(&mut self, pass: ClosingPass, page: &mut [u8]) -> Result<(), (ClosingPass, Fault)>
-        ensures carried { CarriesOut (rules D.Of.Kind.depth D.Of.Kind.life) (call.finish (length page.old)) (volume_of D.meaning self.old) (volume_of D.meaning self.new) (replied_with (λ _. done) result) }
+        ensures carried { CarriesOut (rules D.Of.DEPTH D.Of.LIFE) (call.finish (length page.old)) (volume_of D.meaning self.old) (volume_of D.meaning self.new) (replied_with (λ _. done) result) }
         ensures back { HandsBack result pass }
         ensures zero { page.new ≡ replicate (length page.old) 0 }
     {
@@ -100,7 +100,7 @@ impl<D: Drive> Volume<D> {
     }
 
     fn post_closed(&mut self, page: &mut [u8]) -> Result<(), Fault>
-        ensures { CarriesOut (rules D.Of.Kind.depth D.Of.Kind.life) (call.finish (length page.old)) (volume_of D.meaning self.old) (volume_of D.meaning self.new) (replied (λ _. done) result) }
+        ensures { CarriesOut (rules D.Of.DEPTH D.Of.LIFE) (call.finish (length page.old)) (volume_of D.meaning self.old) (volume_of D.meaning self.new) (replied (λ _. done) result) }
     {
         let page = ask_page(page)?;
         self.memory.ask_phase(Phase::Closing)?;

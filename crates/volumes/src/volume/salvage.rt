@@ -19,7 +19,7 @@ impl<D: Drive> Volume<D> {
     // Posts the first of these that applies: the label as salvage begun, an entry in its mended form, a section of the
     // map as the entries leave it, the label as closed. The page and the tally, a byte for each record, come back zero.
     pub fn salvage(&mut self, page: &mut [u8], tally: &mut [u8]) -> Result<Salvaged, Fault>
-        ensures carried { CarriesOut (rules D.Of.Kind.depth D.Of.Kind.life) (call.salvage (length page.old) (length tally.old)) (volume_of D.meaning self.old) (volume_of D.meaning self.new) (replied salvaged_reply result) }
+        ensures carried { CarriesOut (rules D.Of.DEPTH D.Of.LIFE) (call.salvage (length page.old) (length tally.old)) (volume_of D.meaning self.old) (volume_of D.meaning self.new) (replied salvaged_reply result) }
         ensures zero { page.new ≡ replicate (length page.old) 0 }
         ensures zero_tally { tally.new ≡ replicate (length tally.old) 0 }
     {
@@ -29,7 +29,7 @@ impl<D: Drive> Volume<D> {
     }
 
     fn post_mend(&mut self, page: &mut [u8], tally: &mut [u8]) -> Result<Salvaged, Fault>
-        ensures { CarriesOut (rules D.Of.Kind.depth D.Of.Kind.life) (call.salvage (length page.old) (length tally.old)) (volume_of D.meaning self.old) (volume_of D.meaning self.new) (replied salvaged_reply result) }
+        ensures { CarriesOut (rules D.Of.DEPTH D.Of.LIFE) (call.salvage (length page.old) (length tally.old)) (volume_of D.meaning self.old) (volume_of D.meaning self.new) (replied salvaged_reply result) }
     {
         let page = ask_page(page)?;
         self.memory.ask_phase(Phase::Shut)?;

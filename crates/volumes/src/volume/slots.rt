@@ -26,7 +26,7 @@ impl<D: Drive> Volume<D> {
         slot: usize,
         page: &mut [u8],
     ) -> Result<(), (Grant, Fault)>
-        ensures carried { CarriesOut (rules D.Of.Kind.depth D.Of.Kind.life) (call.place page.old file slot grant.ticket grant.address) (volume_of D.meaning self.old) (volume_of D.meaning self.new) (replied_with done_reply result) }
+        ensures carried { CarriesOut (rules D.Of.DEPTH D.Of.LIFE) (call.place page.old file slot grant.ticket grant.address) (volume_of D.meaning self.old) (volume_of D.meaning self.new) (replied_with done_reply result) }
         ensures back { HandsBack result grant }
         ensures zero { page.new ≡ replicate (length page.old) 0 }
     {
@@ -51,7 +51,7 @@ impl<D: Drive> Volume<D> {
         slot: usize,
         page: &mut [u8],
     ) -> Result<(), Fault>
-        ensures { CarriesOut (rules D.Of.Kind.depth D.Of.Kind.life) (call.place page.old file slot ticket address) (volume_of D.meaning self.old) (volume_of D.meaning self.new) (replied done_reply result) }
+        ensures { CarriesOut (rules D.Of.DEPTH D.Of.LIFE) (call.place page.old file slot ticket address) (volume_of D.meaning self.old) (volume_of D.meaning self.new) (replied done_reply result) }
     {
         let page = ask_page(page)?;
         self.memory.ask_phase(Phase::Open)?;
@@ -71,7 +71,7 @@ impl<D: Drive> Volume<D> {
         slot: usize,
         page: &mut [u8],
     ) -> Result<(), Fault>
-        ensures carried { CarriesOut (rules D.Of.Kind.depth D.Of.Kind.life) (call.read (length page.old) file slot) (volume_of D.meaning self.old) (volume_of D.meaning self.new) (replied (λ _. page_reply page.new) result) }
+        ensures carried { CarriesOut (rules D.Of.DEPTH D.Of.LIFE) (call.read (length page.old) file slot) (volume_of D.meaning self.old) (volume_of D.meaning self.new) (replied (λ _. page_reply page.new) result) }
         ensures zero { OnErr result (page.new ≡ replicate (length page.old) 0) }
     {
         match self.read_page(file, slot, page) {
@@ -96,14 +96,14 @@ impl<D: Drive> Volume<D> {
 
     // A Live page is Leaving from now on, a Nulled one has Left.
     pub fn clear(&mut self, _pass: &WorkingPass, file: usize, slot: usize) -> Result<(), Fault>
-        ensures { CarriesOut (rules D.Of.Kind.depth D.Of.Kind.life) (call.clear file slot) (volume_of D.meaning self.old) (volume_of D.meaning self.new) (replied done_reply result) }
+        ensures { CarriesOut (rules D.Of.DEPTH D.Of.LIFE) (call.clear file slot) (volume_of D.meaning self.old) (volume_of D.meaning self.new) (replied done_reply result) }
     {
         self.memory.clear(file, slot)
     }
 
     // The address that a slot has left goes to the end of those in service; the slot is Empty from now on.
     pub fn reclaim(&mut self, _pass: &WorkingPass, file: usize, slot: usize) -> Result<(), Fault>
-        ensures { CarriesOut (rules D.Of.Kind.depth D.Of.Kind.life) (call.reclaim file slot) (volume_of D.meaning self.old) (volume_of D.meaning self.new) (replied done_reply result) }
+        ensures { CarriesOut (rules D.Of.DEPTH D.Of.LIFE) (call.reclaim file slot) (volume_of D.meaning self.old) (volume_of D.meaning self.new) (replied done_reply result) }
     {
         self.memory.ask_phase(Phase::Open)?;
         let used = self.memory.used_file(file)?;

@@ -15,7 +15,7 @@ pub returns-in_err-post_section : goal.returns-in_err-post_section
 returns-in_err-post_section g c reply =
     let p = err_from_is_err_and c.from_residual.result c.from_residual.ensures.1 in
     let v : Volume = volume_of g.D.Drive.meaning c.args.self.now in
-    let r = rules g.D.Of.Kind.depth g.D.Of.Kind.life in
+    let r = rules g.D.Of.Kind.DEPTH g.D.Of.Kind.LIFE in
     let k = c.covering-k.result in
     let service = c.service-service.ensures.value in
     let found = c.in-Some.ensures ∙ (c.first.ensures.value ∙ (ap (λ l. slice_get l 0) c.service.ensures.value ∙ first_oldest v.memory.service)) in
@@ -31,7 +31,7 @@ returns-in_err-post_section g c reply =
 pub returns : goal.returns
 returns g c reply =
     let v : Volume = volume_of g.D.Drive.meaning c.args.self.now in
-    let r = rules g.D.Of.Kind.depth g.D.Of.Kind.life in
+    let r = rules g.D.Of.Kind.DEPTH g.D.Of.Kind.LIFE in
     let k = c.covering-k.result in
     let service = c.service-service.ensures.value in
     let found = c.in-Some.ensures ∙ (c.first.ensures.value ∙ (ap (λ l. slice_get l 0) c.service.ensures.value ∙ first_oldest v.memory.service)) in

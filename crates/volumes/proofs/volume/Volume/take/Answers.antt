@@ -14,7 +14,7 @@ pub returns-in_err-post_section : goal.returns-in_err-post_section
 returns-in_err-post_section g c =
     let p = err_from_is_err_and c.from_residual.result c.from_residual.ensures.1 in
     let v : Volume = volume_of g.D.Drive.meaning c.args.self.now in
-    let r = rules g.D.Of.Kind.depth g.D.Of.Kind.life in
+    let r = rules g.D.Of.Kind.DEPTH g.D.Of.Kind.LIFE in
     let takes = c.take_lowest-taken.ensures in
     let service = ap length c.service.ensures.value in
     let shown = c.shown_section-section.ensures ∙ ap (λ (l : Label). bits_shown v.drive l.id l.entries c.in-Some.k) c.label-label.ensures in
@@ -37,7 +37,7 @@ take-requires g c =
 pub returns : goal.returns
 returns g c =
     let v : Volume = volume_of g.D.Drive.meaning c.args.self.now in
-    let r = rules g.D.Of.Kind.depth g.D.Of.Kind.life in
+    let r = rules g.D.Of.Kind.DEPTH g.D.Of.Kind.LIFE in
     let takes = c.take_lowest-taken.ensures in
     let service = ap length c.service.ensures.value in
     let shown = c.shown_section-section.ensures ∙ ap (λ (l : Label). bits_shown v.drive l.id l.entries c.in-Some.k) c.label-label.ensures in
