@@ -148,7 +148,12 @@ impl<D: Drive> Volume<D> {
     }
 
     // Posts section `k` of the map.
-    fn post_section(&mut self, k: u8, section: &Section, page: &mut [u8; RECORD]) -> Result<(), Fault>
+    fn post_section(
+        &mut self,
+        k: u8,
+        section: &Section,
+        page: &mut [u8; RECORD],
+    ) -> Result<(), Fault>
         requires { k ≤ 16 }
         ensures answer { said result ≡ post_answer D.Of.DEPTH D.Of.LIFE (D.meaning self.old.drive) (1 + k) (length (section_bytes (volume_of D.meaning self.old).memory.id (volume_of D.meaning self.old).memory.entries (size (D.meaning self.old.drive)) k section.now.bits)) }
         ensures after { PostLeaves result (D.meaning self.old.drive) (1 + k) (section_bytes (volume_of D.meaning self.old).memory.id (volume_of D.meaning self.old).memory.entries (size (D.meaning self.old.drive)) k section.now.bits) (D.meaning self.new.drive) }

@@ -1,5 +1,5 @@
 // What the records of an opened volume show.
-ghost use Rattle.std.specs.Prelude.{◌≡◌, ◌+◌, ◌<◌, not, length};
+ghost use Rattle.std.specs.Prelude.{◌≡◌, ◌+◌, ◌<◌, ◌≤◌, not, length};
 ghost use Rattle.drive.specs.Faults.{said};
 ghost use Rattle.drive.specs.Meaning.{size, pending};
 ghost use Rattle.model.specs.Carried.{asked};
@@ -20,7 +20,8 @@ use record::label::{Label, LabelState};
 impl<D: Drive> Volume<D> {
     // The opened volume's label, in some state.
     pub(crate) fn label(&self, state: LabelState) -> Label
-        ensures { result ≡ kept_label (D.meaning self.now.drive) (volume_of D.meaning self.now).memory state }
+        ensures kept { result ≡ kept_label (D.meaning self.now.drive) (volume_of D.meaning self.now).memory state }
+        ensures few { result.entries ≤ 3968 }
     {
         self.memory.label(self.drive.size() as u16, state)
     }

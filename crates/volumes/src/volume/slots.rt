@@ -1,7 +1,8 @@
 // The calls on the slots of a file.
-ghost use Rattle.std.specs.Prelude.{◌≡◌, length, replicate, OnErr};
+ghost use Rattle.std.specs.Prelude.{◌≡◌, length, replicate, OnErr, ◌==◌};
 ghost use Rattle.model.specs.Calls as call;
-ghost use Rattle.model.specs.Carried.{CarriesOut, ComesTo, HandsBack, replied, replied_with};
+ghost use Rattle.drive.specs.Faults.{said};
+ghost use Rattle.model.specs.Carried.{asked, CarriesOut, ComesTo, HandsBack, replied, replied_with};
 ghost use Rattle.model.specs.Outcomes.{page as page_reply};
 ghost use Rattle.model.specs.Plans.{read_plan};
 ghost use Rattle.model.specs.Replies.{done_reply};
@@ -10,10 +11,11 @@ ghost use Rattle.volumes.specs.Volumes.{volume_of, rules};
 use crate::tokens::{Grant, WorkingPass};
 use crate::volume::Volume;
 use drive::device::Drive;
-use drive::fault::Fault;
+use drive::fault::{Fault, Question};
 use memory::entries;
 use model::memory::Phase;
-use reading::work::{Work, ask_page};
+use reading::work::Work;
+use record::control::RECORD;
 
 impl<D: Drive> Volume<D> {
     // Posts the page at the grant's address for an Empty slot, which is Nulled from now on, and spends the grant. A
@@ -31,7 +33,7 @@ impl<D: Drive> Volume<D> {
         ensures zero { page.new ≡ replicate (length page.old) 0 }
     {
         let work = Work(page);
-        match self.place_page(grant.ticket, grant.address, file, slot, &mut *work.0) {
+        match self.place_page(grant.ticket, grant.address, file, slot, &*work.0) {
             Ok(()) => {
                 let Grant {
                     ticket: _,
@@ -49,11 +51,11 @@ impl<D: Drive> Volume<D> {
         address: u16,
         file: usize,
         slot: usize,
-        page: &mut [u8],
+        page: &[u8],
     ) -> Result<(), Fault>
-        ensures { CarriesOut (rules D.Of.DEPTH D.Of.LIFE) (call.place page.old file slot ticket address) (volume_of D.meaning self.old) (volume_of D.meaning self.new) (replied done_reply result) }
+        ensures { CarriesOut (rules D.Of.DEPTH D.Of.LIFE) (call.place page.now file slot ticket address) (volume_of D.meaning self.old) (volume_of D.meaning self.new) (replied done_reply result) }
     {
-        let page = ask_page(page)?;
+        ask_record(page)?;
         self.memory.ask_phase(Phase::Open)?;
         let used = self.memory.used_file(file)?;
         entries::ask_empty(&used, slot)?;
@@ -86,7 +88,7 @@ impl<D: Drive> Volume<D> {
     fn read_page(&self, file: usize, slot: usize, page: &mut [u8]) -> Result<(), Fault>
         ensures { ComesTo (read_plan (length page.old) file slot (D.meaning self.now.drive) (volume_of D.meaning self.now).memory) (volume_of D.meaning self.now) (volume_of D.meaning self.now) (replied (λ _. page_reply page.new) result) }
     {
-        let page = ask_page(page)?;
+        ask_record(page)?;
         self.memory.ask_phase(Phase::Open)?;
         let used = self.memory.used_file(file)?;
         let address = entries::page_of(&used, slot)?;
@@ -113,4 +115,14 @@ impl<D: Drive> Volume<D> {
         self.memory.reclaim(file, slot, address);
         Ok(())
     }
+}
+
+// Is the page 512 bytes?
+fn ask_record(page: &[u8]) -> Result<(), Fault>
+    ensures { said result ≡ asked 1 (length page.now == 512) }
+{
+    if page.len() != RECORD {
+        return Err(Question::PageLength.refused());
+    }
+    Ok(())
 }

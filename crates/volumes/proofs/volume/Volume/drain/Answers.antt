@@ -1,4 +1,4 @@
-use Rattle.std.proofs.Common.{◌≡◌, length, replicate, Ok, refl, ap, ◌∙◌, arith}
+use Rattle.std.proofs.Common.{Ok, refl, ap, ◌∙◌, rules}
 use Rattle.std.proofs.lemmas.Result.{err_from_is_err_and}
 use Rattle.model.specs.Calls.{plan}
 use Rattle.model.specs.Outcomes.{dry}
@@ -11,33 +11,31 @@ pub returns-in_err-page : goal.returns-in_err-page
 unfolding plan drain_plan
 returns-in_err-page g c =
     let p = err_from_is_err_and c.from_residual.result c.from_residual.ensures.1 in
-    rw (p.1, p.2) (record { carried = carried _ _ _ _ _ tt (refusing _ _ _ _ _ (asked_no _ _ _ _ c.in_err-page.ensures) refl refl); zero = c.drop-work.ensures })
+    rw (p.1, p.2) (record { carried = carried _ _ _ _ _ tt (refusing _ _ _ _ _ (asked_no _ _ _ _ c.in_err-page.ensures) refl refl); zero = search rules })
 
 pub returns-in_err-ask_drain : goal.returns-in_err-ask_drain
 unfolding plan drain_plan
 returns-in_err-ask_drain g c =
     let p = err_from_is_err_and c.from_residual-in_err-ask_drain.result c.from_residual-in_err-ask_drain.ensures.1 in
     let no' = asked_yes _ _ _ c.in_ok-page.ensures ∙ one_no _ _ _ _ _ _ c.in_err-ask_drain.ensures in
-    rw (p.1, p.2) (record { carried = carried _ _ _ _ _ tt (refusing _ _ _ _ _ no' refl refl); zero = c.drop-work-in_err-ask_drain.ensures })
+    rw (p.1, p.2) (record { carried = carried _ _ _ _ _ tt (refusing _ _ _ _ _ no' refl refl); zero = search rules })
 
 pub returns-in_err-posted : goal.returns-in_err-posted
 unfolding plan drain_plan
 returns-in_err-posted g c =
     let p = err_from_is_err_and c.from_residual-in_err-posted.result c.from_residual-in_err-posted.ensures.1 in
     let gives = asked_yes _ _ _ c.in_ok-page.ensures ∙ both_yes _ _ _ _ _ c.in_ok-ask_drain.ensures in
-    let long : length c.give.new.page ≡ length c.args.page.now = omega arith in
     rw (p.1, p.2)
     (record {
       carried = carried _ _ _ _ _ tt (at_plan _ _ _ _ _ _ gives refl (c.in_err-posted.ensures dry));
-      zero = c.drop-work-in_err-posted.ensures ∙ ap (λ n. replicate n 0) long;
+      zero = search rules;
     })
 
 pub returns : goal.returns
 unfolding plan drain_plan
 returns g c =
     let gives = asked_yes _ _ _ c.in_ok-page.ensures ∙ both_yes _ _ _ _ _ c.in_ok-ask_drain.ensures in
-    let long : length c.give.new.page ≡ length c.args.page.now = omega arith in
     record {
       carried = carried _ _ _ _ _ tt (at_plan _ _ _ _ _ _ gives (ap Ok c.drained.ensures) (c.in_ok-posted.ensures dry));
-      zero = c.drop-work-2.ensures ∙ ap (λ n. replicate n 0) long;
+      zero = search rules;
     }

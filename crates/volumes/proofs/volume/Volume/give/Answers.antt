@@ -5,7 +5,6 @@ use Rattle.model.specs.declared.memory.MapState.TheVariants.{Writing}
 use Rattle.model.specs.Memory.{Memory, with_stock}
 use Rattle.model.specs.Shown.{bits_shown}
 use Rattle.model.specs.Stock.{given, staying}
-use Rattle.record.specs.declared.label.Label.{Label}
 use Rattle.model.proofs.CarriedLaws.{posting, post_refused}
 use Rattle.volumes.specs.Volumes.{volume_of, rules}
 use Rattle.volumes.proofs.Mapping.{first_oldest, section_given}
@@ -20,7 +19,7 @@ returns-in_err-post_section g c reply =
     let service = c.service-service.ensures.value in
     let found = c.in-Some.ensures ∙ (c.first.ensures.value ∙ (ap (λ l. slice_get l 0) c.service.ensures.value ∙ first_oldest v.memory.service)) in
     let amount = c.saturating_sub-most.ensures ∙ ap (λ n. n - c.args.left) (ap length service) in
-    let shown = c.shown_section-section.ensures ∙ ap (λ (l : Label). bits_shown v.drive l.id l.entries k) c.label-label.ensures in
+    let shown = c.shown_section-section.ensures ∙ (λ j. bits_shown (g.D.Drive.meaning (c.records.ensures.same j)) (c.records.ensures.label j).id (c.records.ensures.label j).entries k) in
     let gives = c.deref.ensures.0 ∙ (c.part-given.ensures.given ∙ ap (given k c.saturating_sub-most.result) service) in
     let stays = c.part-given.ensures.staying ∙ ap (staying k c.saturating_sub-most.result) service in
     let plan = section_given r v.drive v.memory c.args.left reply _ _ _ _ _ _ _ found c.covering-k.ensures.value amount shown gives c.give_back.ensures stays in
@@ -36,7 +35,7 @@ returns g c reply =
     let service = c.service-service.ensures.value in
     let found = c.in-Some.ensures ∙ (c.first.ensures.value ∙ (ap (λ l. slice_get l 0) c.service.ensures.value ∙ first_oldest v.memory.service)) in
     let amount = c.saturating_sub-most.ensures ∙ ap (λ n. n - c.args.left) (ap length service) in
-    let shown = c.shown_section-section.ensures ∙ ap (λ (l : Label). bits_shown v.drive l.id l.entries k) c.label-label.ensures in
+    let shown = c.shown_section-section.ensures ∙ (λ j. bits_shown (g.D.Drive.meaning (c.records.ensures.same j)) (c.records.ensures.label j).id (c.records.ensures.label j).entries k) in
     let gives = c.deref.ensures.0 ∙ (c.part-given.ensures.given ∙ ap (given k c.saturating_sub-most.result) service) in
     let stays = c.part-given.ensures.staying ∙ ap (staying k c.saturating_sub-most.result) service in
     let plan = section_given r v.drive v.memory c.args.left reply _ _ _ _ _ _ _ found c.covering-k.ensures.value amount shown gives c.give_back.ensures stays in

@@ -5,7 +5,6 @@ use Rattle.model.specs.Carried.{asked}
 use Rattle.model.specs.Plans.{finish_plan, is_idle}
 use Rattle.model.specs.Volume.{label_bytes}
 use Rattle.model.proofs.CarriedLaws.{asked_yes, asked_no, carried, refusing, posting_page, post_refused_page}
-use Rattle.volumes.proofs.Carrying.{page_long}
 use Rattle.volumes.proofs.volume.Volume.post_closed.Goals as goal
 
 pub returns-in_err-page : goal.returns-in_err-page
@@ -30,9 +29,6 @@ returns-in_err-ask_settled g c =
     rw (p.1, p.2) (carried _ _ _ _ _ tt (refusing _ _ _ _ _
     (asked_yes _ _ _ c.in_ok-page.ensures ∙ (asked_yes _ _ _ c.in_ok-ask_phase.ensures ∙ asked_no _ _ _ _ (c.in_err-ask_settled.ensures ∙ at_owed))) refl refl))
 
-pub encode-requires : goal.encode-requires
-encode-requires g c = page_long (length c.args.page.now) c.in_ok-page.ensures
-
 pub returns-in_err-post : goal.returns-in_err-post
 unfolding plan finish_plan
 returns-in_err-post g c =
@@ -42,7 +38,7 @@ returns-in_err-post g c =
     let same = ap {B = Volume} (λ m. record { drive = m; memory = v }) c.in_err-post.ensures.after in
     rw (p.1, p.2) (carried _ _ _ _ _ tt (post_refused_page _ _ _ _ _ _ _ _ _ _
     (asked_yes _ _ _ c.in_ok-page.ensures ∙ (asked_yes _ _ _ c.in_ok-ask_phase.ensures ∙ asked_yes _ _ _ (c.in_ok-ask_settled.ensures ∙ at_owed)))
-    (c.encode.ensures ∙ ap label_bytes c.label.ensures) c.in_err-post.ensures.answer refl same))
+    (c.encode.ensures ∙ ap label_bytes c.label.ensures.kept) c.in_err-post.ensures.answer refl same))
 
 pub returns : goal.returns
 unfolding plan finish_plan
@@ -52,4 +48,4 @@ returns g c =
     let at_owed = ap (λ n. asked 15 (is_idle v.chart && (eqb (length v.service + length v.unsettled) 0 && eqb n 0))) c.owed.ensures.value in
     carried _ _ _ _ _ tt (posting_page _ _ _ _ _ _ _ _ _ posted.after.0
     (asked_yes _ _ _ c.in_ok-page.ensures ∙ (asked_yes _ _ _ c.in_ok-ask_phase.ensures ∙ asked_yes _ _ _ (c.in_ok-ask_settled.ensures ∙ at_owed)))
-    (c.encode.ensures ∙ ap label_bytes c.label.ensures) posted.answer refl c.shut.ensures posted.after.1)
+    (c.encode.ensures ∙ ap label_bytes c.label.ensures.kept) posted.answer refl c.shut.ensures posted.after.1)

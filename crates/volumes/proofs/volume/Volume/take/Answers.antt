@@ -4,7 +4,6 @@ use Rattle.model.specs.Calls.{Volume}
 use Rattle.model.specs.declared.memory.MapState.TheVariants.{Writing}
 use Rattle.model.specs.Memory.{Memory, held, with_stock}
 use Rattle.model.specs.Shown.{bits_shown}
-use Rattle.record.specs.declared.label.Label.{Label}
 use Rattle.model.proofs.CarriedLaws.{posting, post_refused}
 use Rattle.volumes.specs.Volumes.{volume_of, rules}
 use Rattle.volumes.proofs.Mapping.{used_within, section_taken}
@@ -17,7 +16,7 @@ returns-in_err-post_section g c =
     let r = rules g.D.Of.Kind.DEPTH g.D.Of.Kind.LIFE in
     let takes = c.take_lowest-taken.ensures in
     let service = ap length c.service.ensures.value in
-    let shown = c.shown_section-section.ensures ∙ ap (λ (l : Label). bits_shown v.drive l.id l.entries c.in-Some.k) c.label-label.ensures in
+    let shown = c.shown_section-section.ensures ∙ (λ j. bits_shown (g.D.Drive.meaning (c.records.ensures.same j)) (c.records.ensures.label j).id (c.records.ensures.label j).entries c.in-Some.k) in
     let plan = section_taken r v.drive v.memory _ _ _ _ _ c.in-Some.ensures.lowest (c.wanted-most.ensures ∙ ap (λ n. 16 - n) service) shown takes.left takes.taken in
     let kept = c.in_err-post_section.ensures in
     let same = ap₂ {C = Volume} (λ d x. record { drive = d; memory = x }) kept.after kept.same in
@@ -40,7 +39,7 @@ returns g c =
     let r = rules g.D.Of.Kind.DEPTH g.D.Of.Kind.LIFE in
     let takes = c.take_lowest-taken.ensures in
     let service = ap length c.service.ensures.value in
-    let shown = c.shown_section-section.ensures ∙ ap (λ (l : Label). bits_shown v.drive l.id l.entries c.in-Some.k) c.label-label.ensures in
+    let shown = c.shown_section-section.ensures ∙ (λ j. bits_shown (g.D.Drive.meaning (c.records.ensures.same j)) (c.records.ensures.label j).id (c.records.ensures.label j).entries c.in-Some.k) in
     let plan = section_taken r v.drive v.memory _ _ _ _ _ c.in-Some.ensures.lowest (c.wanted-most.ensures ∙ ap (λ n. 16 - n) service) shown takes.left (c.deref.ensures.0 ∙ takes.taken) in
     let posted = c.in_ok-post_section.ensures in
     let k = c.in-Some.k in
