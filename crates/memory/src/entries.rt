@@ -11,9 +11,7 @@ ghost use Rattle.model.specs.Slots.{with_slot, page_of, cleared, left_address, l
 use drive::fault::{Fault, Question};
 use model::memory::{File, Slot};
 use record::entry::Entry;
-
-// The record of entry 0.
-const FIRST_ENTRY: u16 = 8;
+use record::region::FIRST_ENTRY;
 
 // Is the entry number below the number of entries, and in no file?
 #[tactic(auto, using(crate::proofs::TableLaws::in_some))]

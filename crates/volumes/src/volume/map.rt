@@ -49,11 +49,11 @@ impl<D: Drive> Volume<D> {
         let in_service = self.memory.service().len();
         if in_service < FEW {
             let posted = self.take(page)?;
-            return Ok(balanced(posted));
+            return Ok(posted.map_or(Balanced::Quiet, Balanced::Section));
         }
         if in_service > MANY {
             let posted = self.give(ENOUGH, page)?;
-            return Ok(balanced(posted));
+            return Ok(posted.map_or(Balanced::Quiet, Balanced::Section));
         }
         Ok(Balanced::Quiet)
     }
@@ -67,7 +67,7 @@ impl<D: Drive> Volume<D> {
         let page = ask_page(&mut *work.0)?;
         self.ask_drain()?;
         let posted = self.give(0, page)?;
-        Ok(drained(posted))
+        Ok(posted.map_or(Drained::Dry, Drained::Section))
     }
 
     // Is the volume closing, and its map idle?
@@ -162,23 +162,5 @@ impl<D: Drive> Volume<D> {
         let records = self.records();
         section.encode(SUM_START, records.label.id, &records.span(k), page);
         self.drive.post(FIRST_SECTION + u16::from(k), page)
-    }
-}
-
-fn balanced(posted: Option<u8>) -> Balanced
-    ensures { balanced_reply result ≡ section_or quiet posted }
-{
-    match posted {
-        Some(k) => Balanced::Section(k),
-        None => Balanced::Quiet,
-    }
-}
-
-fn drained(posted: Option<u8>) -> Drained
-    ensures { drained_reply result ≡ section_or dry posted }
-{
-    match posted {
-        Some(k) => Drained::Section(k),
-        None => Drained::Dry,
     }
 }

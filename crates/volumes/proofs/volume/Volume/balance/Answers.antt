@@ -2,10 +2,12 @@ use Rattle.std.proofs.Common.{◌≡◌, ◌<◌, ◌≤◌, length, Ok, refl, a
 use Rattle.std.proofs.lemmas.Result.{err_from_is_err_and}
 use Rattle.model.specs.Calls.{plan, Volume}
 use Rattle.model.specs.Outcomes.{quiet}
+use Rattle.model.specs.Replies.{balanced_reply}
+use Rattle.model.specs.declared.answers.Balanced.TheVariants.{Section, Quiet}
 use Rattle.model.specs.Plans.{balance_plan}
 use Rattle.model.proofs.CarriedLaws.{asked_yes, asked_no, carried, refusing, keeping}
 use Rattle.volumes.specs.Volumes.{volume_of, rules}
-use Rattle.volumes.proofs.Mapping.{balance_busy, balance_takes, balance_gives, balance_quiet, at_plan}
+use Rattle.volumes.proofs.Mapping.{section_reply, balance_busy, balance_takes, balance_gives, balance_quiet, at_plan}
 use Rattle.volumes.proofs.volume.Volume.balance.Goals as goal
 
 pub returns-in_err-page : goal.returns-in_err-page
@@ -53,7 +55,7 @@ returns-then-in_service-lt-FEW g c =
     let few : length v.memory.service < 8 = omega arith in
     let takes = balance_takes r (length c.args.page.now) v.drive v.memory c.in_ok-page.ensures c.in_ok-ask_phase.ensures c.if-not-is_idle.ensures few in
     record {
-      carried = carried _ _ _ _ _ tt (at_plan _ _ _ _ _ _ takes (ap Ok c.balanced.ensures) c.in_ok-posted.ensures);
+      carried = carried _ _ _ _ _ tt (at_plan _ _ _ _ _ _ takes (ap Ok (section_reply balanced_reply Quiet Section quiet _ _ c.map_or.ensures refl (λ k. refl))) c.in_ok-posted.ensures);
       zero = search found;
     }
 
@@ -81,7 +83,7 @@ returns-then-in_service-gt-MANY g c =
     let many : 24 < length v.memory.service = omega arith in
     let gives = balance_gives r (length c.args.page.now) v.drive v.memory c.in_ok-page.ensures c.in_ok-ask_phase.ensures c.if-not-is_idle.ensures many in
     record {
-      carried = carried _ _ _ _ _ tt (at_plan _ _ _ _ _ _ gives (ap Ok c.balanced-then-in_service-gt-MANY.ensures) (c.in_ok-posted-2.ensures quiet));
+      carried = carried _ _ _ _ _ tt (at_plan _ _ _ _ _ _ gives (ap Ok (section_reply balanced_reply Quiet Section quiet _ _ c.map_or-then-in_service-gt-MANY.ensures refl (λ k. refl))) (c.in_ok-posted-2.ensures quiet));
       zero = search found;
     }
 

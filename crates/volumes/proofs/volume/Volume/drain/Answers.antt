@@ -2,9 +2,11 @@ use Rattle.std.proofs.Common.{Ok, refl, ap, ◌∙◌, rules}
 use Rattle.std.proofs.lemmas.Result.{err_from_is_err_and}
 use Rattle.model.specs.Calls.{plan}
 use Rattle.model.specs.Outcomes.{dry}
+use Rattle.model.specs.Replies.{drained_reply}
+use Rattle.model.specs.declared.answers.Drained.TheVariants.{Section, Dry}
 use Rattle.model.specs.Plans.{drain_plan}
 use Rattle.model.proofs.CarriedLaws.{asked_yes, asked_no, carried, refusing}
-use Rattle.volumes.proofs.Mapping.{both_yes, one_no, at_plan}
+use Rattle.volumes.proofs.Mapping.{section_reply, both_yes, one_no, at_plan}
 use Rattle.volumes.proofs.volume.Volume.drain.Goals as goal
 
 pub returns-in_err-page : goal.returns-in_err-page
@@ -36,6 +38,6 @@ unfolding plan drain_plan
 returns g c =
     let gives = asked_yes _ _ _ c.in_ok-page.ensures ∙ both_yes _ _ _ _ _ c.in_ok-ask_drain.ensures in
     record {
-      carried = carried _ _ _ _ _ tt (at_plan _ _ _ _ _ _ gives (ap Ok c.drained.ensures) (c.in_ok-posted.ensures dry));
+      carried = carried _ _ _ _ _ tt (at_plan _ _ _ _ _ _ gives (ap Ok (section_reply drained_reply Dry Section dry _ _ c.map_or.ensures refl (λ k. refl))) (c.in_ok-posted.ensures dry));
       zero = search rules;
     }
