@@ -1,5 +1,5 @@
 use Rattle.std.proofs.Common.{arith}
-use Rattle.mending.proofs.TallyLaws.{mending_none, mending_kept, mending_passed, mending_all}
+use Rattle.mending.proofs.TallyLaws.{mending_none, mending_kept, mending_passed}
 use Rattle.mending.proofs.entries.mend_slots.Goals as goal
 use Rattle.mending.proofs.entries.mend_slots.Goals.{then-note, else-note}
 
@@ -21,8 +21,3 @@ loop-p-preserved c =
           mending_passed g slots c.args.tally.now c.loop-p.tally c.loop-p.mended c.loop-p.p c.note.new.tally c.if-note.mended (omega arith) (omega arith) c.requires.past
           (e.new, e.after) w.mended-is M
     ]
-
-pub returns : goal.returns
-returns c =
-    let a = mending_all c.args.region.now c.args.slots.now c.args.tally.now c.loop-p.tally c.loop-p.mended c.loop-p.p (omega arith) (omega arith) c.loop-p.invariant in
-    record { form = a.0; tally = a.1 }

@@ -2,17 +2,11 @@ use Rattle.std.proofs.Common.{◌<◌, [], sym, arith, rules}
 use Rattle.drive.specs.Meaning.{shown}
 use Rattle.record.specs.Regions.{page_region}
 use Rattle.model.specs.Mending.{Unmended}
-use Rattle.model.proofs.SalvageCalls.{unmended_is, inexact_is}
+use Rattle.model.proofs.SalvageCalls.{unmended_is}
 use Rattle.reading.proofs.BelievedLaws.{label_sized, few_entries}
 use Rattle.mending.proofs.InexactLaws.{section_exact}
-use Rattle.mending.proofs.NextLaws.{next_entry, next_section, next_ended}
+use Rattle.mending.proofs.NextLaws.{next_section}
 use Rattle.mending.proofs.next.next_mend.Goals as goal
-
-pub first_unmended-requires : goal.first_unmended-requires
-first_unmended-requires g c =
-    let m = g.D.Drive.meaning c.args.records.now.drive.now in
-    let l = c.args.records.now.label in
-    omega (arith, c.args.records.now.sized, c.requires.tallied)
 
 pub overflow_add-result : goal.overflow_add-result
 overflow_add-result g c =
@@ -22,32 +16,6 @@ overflow_add-result g c =
     let below = (unmended_is l.id (page_region l.entries l.records) (shown m) [] 0 l.entries u (sym c.in-Some.ensures)).0 in
     let small : u.number < 3968 = omega (arith, few_entries m l c.requires.believed) in search rules
 
-pub returns-in-Some : goal.returns-in-Some
-returns-in-Some g c =
-    let m = g.D.Drive.meaning c.args.records.now.drive.now in
-    let l = c.args.records.now.label in
-    next_entry m l (label_sized m l c.requires.believed).0 c.if-not-has_begun.ensures (record { number = c.in-Some.unmended.number; form = c.in-Some.unmended.form }) _ c.in-Some.ensures c.encode-in-Some.ensures
-
-pub tally_named-requires : goal.tally_named-requires
-tally_named-requires g c =
-    let m = g.D.Drive.meaning c.args.records.now.drive.now in
-    let l = c.args.records.now.label in
-    omega (arith, c.args.records.now.sized, c.requires.tallied)
-
-pub first_inexact-requires : goal.first_inexact-requires
-first_inexact-requires g c =
-    let m = g.D.Drive.meaning c.args.records.now.drive.now in
-    let l = c.args.records.now.label in
-    record { inside = omega (arith, (label_sized m l c.requires.believed).0, c.requires.tallied); named = c.tally_named.ensures }
-
-pub encode_exact-requires : goal.encode_exact-requires
-encode_exact-requires g c =
-    let m = g.D.Drive.meaning c.args.records.now.drive.now in
-    let l = c.args.records.now.label in
-    let k = c.in-Some-first_inexact.k in
-    let below = inexact_is l.id l.entries l.records (shown m) 0 3 k (sym c.in-Some-first_inexact.ensures) in
-    record { numbered = omega arith; inside = omega (arith, (label_sized m l c.requires.believed).0, c.requires.tallied) }
-
 pub returns-in-Some-first_inexact : goal.returns-in-Some-first_inexact
 returns-in-Some-first_inexact g c =
     let m = g.D.Drive.meaning c.args.records.now.drive.now in
@@ -55,9 +23,3 @@ returns-in-Some-first_inexact g c =
     let k = c.in-Some-first_inexact.k in
     let form = section_exact l (shown m) c.tally_named.new.tally k _ c.tally_named.ensures c.encode_exact.ensures in
     next_section m l (label_sized m l c.requires.believed).0 c.if-not-has_begun.ensures k _ _ c.from.ensures c.in_default.ensures c.in-Some-first_inexact.ensures form
-
-pub returns : goal.returns
-returns g c =
-    let m = g.D.Drive.meaning c.args.records.now.drive.now in
-    let l = c.args.records.now.label in
-    next_ended m l (label_sized m l c.requires.believed).0 c.if-not-has_begun.ensures _ c.in_default.ensures c.in_default-first_inexact.ensures c.encode-2.ensures

@@ -1,4 +1,4 @@
-use Rattle.std.proofs.Common.{◌≡◌, ℕ, Bool, false, ◌&&◌, eqb, List, [], ◌∷◌, length, sym, refl, ap, ◌∙◌, arith}
+use Rattle.std.proofs.Common.{◌≡◌, ℕ, false, ◌&&◌, eqb, List, [], ◌∷◌, length, sym, refl, ap, ◌∙◌, arith}
 use lib.Pointwise.{pointwise}
 use Rattle.std.specs.Option.{option_copied, unwrap_or}
 use Rattle.record.specs.Words.{same}
@@ -21,6 +21,3 @@ returns c =
     c.eq.ensures
     ∙ ((λ i. pointwise eqb (first i) (second i))
     ∙ (as_same c.in-Some.page.now c.args.bytes.now ∙ ap (λ o. same (unwrap_or (option_copied o) []) c.args.bytes.now) (sym c.in-Some.is)))
-
-pub returns-in_default : goal.returns-in_default
-returns-in_default c = none_same c.args.bytes.now c.told-bytes ∙ ap (λ o. same (unwrap_or (option_copied o) []) c.args.bytes.now) (sym c.in_default.is)

@@ -4,12 +4,9 @@ use Rattle.record.specs.declared.region.Region.{Region}
 use Rattle.model.specs.Mending.{slots_or_none}
 use Rattle.mending.specs.Sought.{pages_of}
 use Rattle.mending.specs.Tallies.{Adds}
-use Rattle.mending.proofs.UnmendedLaws.{naming_none, naming_more, naming_all}
+use Rattle.mending.proofs.UnmendedLaws.{naming_more}
 use Rattle.mending.proofs.tally.tally_named.Goals as goal
 use Rattle.mending.proofs.tally.tally_named.Goals.{in-Some, in_default}
-
-pub loop-i-init : goal.loop-i-init
-loop-i-init g c = naming_none c.args.records.now.label (shown (g.D.Drive.meaning c.args.records.now.drive.now)) c.clear.new.tally c.clear.ensures
 
 pub loop-i-preserved : goal.loop-i-preserved
 loop-i-preserved g c =
@@ -25,6 +22,3 @@ loop-i-preserved g c =
       | in_default w ↦
           next [] c.loop-i.i (omega arith) (ap slots_or_none w.in_default.ensures) (subst (Adds (pages_of l) [] before) (sym w.tally-is) (λ a h. refl)) c.loop-i.invariant
     ]
-
-pub returns : goal.returns
-returns g c = naming_all c.args.records.now.label (shown (g.D.Drive.meaning c.args.records.now.drive.now)) c.loop-i.tally c.loop-i.i (omega arith) c.loop-i.invariant

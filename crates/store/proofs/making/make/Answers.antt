@@ -1,4 +1,4 @@
-use Rattle.std.proofs.Common.{◌≡◌, length, replicate, sym, ap, ◌∙◌, subst, arith, rules}
+use Rattle.std.proofs.Common.{length, sym, ap, ◌∙◌, subst, arith, rules}
 use Rattle.drive.specs.Meaning.{size}
 use Rattle.drive.proofs.MeaningLaws.{length_settle}
 use Rattle.model.specs.Outcomes.{Rules}

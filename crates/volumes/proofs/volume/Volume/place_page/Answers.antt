@@ -3,7 +3,7 @@ use Rattle.std.proofs.lemmas.Result.{err_from_is_err_and}
 use Rattle.model.specs.Calls.{plan, Volume}
 use Rattle.model.specs.Plans.{place_plan}
 use Rattle.model.proofs.CarriedLaws.{asked_yes, asked_no, needed_some, needed_none, some_of, carried, refusing, posting, post_refused}
-use Rattle.volumes.proofs.Carrying.{bytes_fit, slot_within}
+use Rattle.volumes.proofs.Carrying.{bytes_fit}
 use Rattle.volumes.proofs.volume.Volume.place_page.Goals as goal
 
 pub returns-in_err-ask_record : goal.returns-in_err-ask_record
@@ -53,14 +53,6 @@ returns-in_err-post g c =
     (asked_yes _ _ _ c.in_ok-ask_record.ensures ∙ (asked_yes _ _ _ c.in_ok-ask_phase.ensures ∙ (needed_some _ _ _ _ c.in_ok-used.ensures.found
     ∙ (needed_some _ _ _ _ c.in_ok-ask_empty.ensures ∙ asked_yes _ _ _ c.in_ok-ask_ticket.ensures.held))))
     c.in_err-post.ensures.answer refl same))
-
-pub place-requires : goal.place-requires
-place-requires g c =
-    record {
-      filed = c.in_ok-used.ensures.filed;
-      slotted = slot_within 10 c.in_ok-used.used _ _ _ c.in_ok-ask_empty.ensures;
-      ticketed = c.in_ok-ask_ticket.ensures.ticketed;
-    }
 
 pub returns : goal.returns
 unfolding plan place_plan

@@ -1,4 +1,4 @@
-use Rattle.std.proofs.Common.{[], ◌∷◌, map, refl, ap, ◌∙◌, arith}
+use Rattle.std.proofs.Common.{[], ◌∷◌, map, refl, ap, ◌∙◌}
 use Rattle.std.proofs.lemmas.Result.{err_from_is_err_and}
 use Rattle.memory.specs.View.{opened_as}
 use Rattle.model.specs.Calls.{plan, Volume}
@@ -37,10 +37,6 @@ returns-in_err-ask_may_open g c =
     rw (p.1, p.2) (carried _ _ _ _ _ tt (refusing _ _ _ _ _
     (asked_yes _ _ _ c.in_ok-page.ensures ∙ (asked_yes _ _ _ c.in_ok-ask_phase.ensures ∙ (needed_some _ _ _ _ c.in_ok-records.ensures.label
     ∙ asked_no _ _ _ _ c.in_err-ask_may_open.ensures))) refl refl))
-
-pub open-requires : goal.open-requires
-open-requires g c =
-    omega (arith, c.in_ok-records.records.few, ap (λ l. l.entries) c.in_use-opened.ensures)
 
 pub returns-in_err-post : goal.returns-in_err-post
 unfolding plan open_plan

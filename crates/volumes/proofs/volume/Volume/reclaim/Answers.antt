@@ -3,7 +3,6 @@ use Rattle.std.proofs.lemmas.Result.{err_from_is_err_and}
 use Rattle.model.specs.Calls.{plan}
 use Rattle.model.specs.Plans.{reclaim_plan}
 use Rattle.model.proofs.CarriedLaws.{asked_yes, asked_no, needed_some, needed_none, some_of, carried, refusing, keeping}
-use Rattle.volumes.proofs.Carrying.{slot_within, room_within}
 use Rattle.volumes.proofs.volume.Volume.reclaim.Goals as goal
 
 pub returns-in_err-ask_phase : goal.returns-in_err-ask_phase
@@ -41,14 +40,6 @@ returns-in_err-ask_settled g c =
     rw (p.1, p.2) (carried _ _ _ _ _ tt (refusing _ _ _ _ _
     (asked_yes _ _ _ c.in_ok-ask_phase.ensures ∙ (needed_some _ _ _ _ c.in_ok-used.ensures.found ∙ (needed_some _ _ _ _ c.in_ok-address.ensures
     ∙ (asked_yes _ _ _ c.in_ok-ask_room.ensures ∙ asked_no _ _ _ _ c.in_err-ask_settled.ensures)))) refl refl))
-
-pub reclaim-requires : goal.reclaim-requires
-reclaim-requires g c =
-    record {
-      filed = c.in_ok-used.ensures.filed;
-      slotted = slot_within 10 c.in_ok-used.used _ _ _ c.in_ok-address.ensures;
-      room = room_within c.args.self.now.memory c.in_ok-ask_room.ensures;
-    }
 
 pub returns : goal.returns
 unfolding plan reclaim_plan
