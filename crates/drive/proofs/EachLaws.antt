@@ -1,5 +1,5 @@
 -- What a test of every element tells.
-use Rattle.std.proofs.Common.{◌≡◌, ℕ, zero, suc, Bool, true, ltb, List, [], ◌∷◌, ◌++◌, get_or, set, replicate, sym, refl, ap, ◌∙◌, w8, Fits}
+use Rattle.std.proofs.Common.{Fits, w8, ◌≡◌, ℕ, zero, suc, Bool, true, ltb, List, [], ◌∷◌, ◌++◌, get_or, set, replicate, sym, refl, ap, ◌∙◌, ◌<◌}
 use Rattle.std.specs.List.{AllByRecursion}
 use Rattle.std.proofs.ByRecursion.{All-from_get_or, All-push, All-set}
 use Rattle.std.proofs.lemmas.Bool.{and_from, and_parts, lt-ltb}
@@ -17,9 +17,12 @@ each_replicate test zero x h = refl
 each_replicate test (suc n) x h = and_from (test x) (each test (replicate n x)) h (each_replicate test n x h)
 
 -- bytes of the program are below 256
-pub all_bytes_from : (bs : List ℕ) → ((i : ℕ) → Fits w8 (get_or bs i 0)) → all_bytes bs ≡ true
+pub all_bytes_from : (bs : List ℕ) → ((i : ℕ) → get_or bs i 0 < 256) → all_bytes bs ≡ true
 all_bytes_from bs h =
-    each_from_all (λ b. ltb b 256) bs (All-from_get_or (λ b. ltb b 256 ≡ true) bs 0 (λ i _. lt-ltb (get_or bs i 0) 256 (h i).fits))
+    each_from_all (λ b. ltb b 256) bs (All-from_get_or (λ b. ltb b 256 ≡ true) bs 0 (λ i _. lt-ltb (get_or bs i 0) 256 (h i)))
+
+pub all_bytes_fit : (bs : List ℕ) → ((i : ℕ) → Fits w8 (get_or bs i 0)) → all_bytes bs ≡ true
+all_bytes_fit bs h = all_bytes_from bs (λ i. (h i).fits)
 
 pub each_none : {X : Type 0} (test : X → Bool) (xs : List X) → xs ≡ [] → each test xs ≡ true
 unfolding each

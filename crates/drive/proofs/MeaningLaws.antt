@@ -1,7 +1,7 @@
 -- The laws of a drive's meaning.
-use Rattle.std.proofs.Common.{◌≡◌, ℕ, zero, suc, ◌+◌, ◌<◌, ◌≤◌, false, cond, eqb, List, [], ◌∷◌, ◌++◌, length, get_or, take, drop, set, sym, refl, ap, ◌∙◌, subst, inl, inr, ⊎_elim, zero-le, arith}
+use Rattle.std.proofs.Common.{◌≡◌, ℕ, zero, suc, ◌+◌, ◌<◌, ◌≤◌, false, cond, eqb, List, [], ◌∷◌, ◌++◌, length, get_or, take, drop, set, sym, refl, ap, ◌∙◌, subst, inl, inr, ⊎_elim, arith}
 use lib.Seq.{take-nil}
-use Rattle.std.proofs.lemmas.List.{length-set, get_or-set_same, get_or-set_other, length_push, length-drop, nil_from_length, set_past, drop_all, drop-drop, take-append-drop}
+use Rattle.std.proofs.lemmas.List.{length-set, get_or-set_same, get_or-set_other, length_push, length-drop, set_past, drop-drop, take-append-drop}
 use Rattle.std.proofs.lemmas.Bool.{cases_eq, cases_lt, eq-eqb, ne_eqb, cond-true, cond-false, or_parts, eqb-false}
 use Rattle.drive.specs.Cuts.{SomeWrite, Torn, LeftAt}
 use Rattle.drive.specs.Laws.{CompletingChangesNothingShown, CompletingAddsNoImage, ACutKeepsWhatHasNothingOutstanding, APostedWriteIsShownAndNoOtherAddressChanges, WritesCompleteOldestFirst}
@@ -92,19 +92,11 @@ pub writes_complete_oldest_first : WritesCompleteOldestFirst
 writes_complete_oldest_first m j k = (sym (take-append-drop k m.outstanding), completing_in_turns m j k)
 
 -- the oldest k completed after a post
-pub completed_posted : (m p n : Meaning) (k j a : ℕ) (bs : List ℕ) → n ≡ complete k p → p ≡ posted m a bs → k ≡ j → n ≡ complete j (posted m a bs)
-completed_posted m p n k j a bs e f same = e ∙ (λ i. complete (same i) (f i))
+pub completed_posted : (m p n : Meaning) (k j a : ℕ) (bs page : List ℕ) → n ≡ complete k p → p ≡ posted m a bs → bs ≡ page → k ≡ j → n ≡ complete j (posted m a page)
+completed_posted m p n k j a bs page e f same_page same = e ∙ (λ i. complete (same i) (f i)) ∙ ap (λ b. complete j (posted m a b)) same_page
 
 pub owed_complete : (m n : Meaning) (k : ℕ) → n ≡ complete k m → owed n ≤ owed m
 owed_complete m n k e = omega (arith, ap owed e, length-drop k m.outstanding)
 
 pub owed_posted : (m n : Meaning) (a : ℕ) (bs : List ℕ) → n ≡ posted m a bs → owed n ≡ owed m + 1
 owed_posted m n a bs e = ap owed e ∙ length_push m.outstanding (record { at = a; bytes = bs })
-
--- where nothing is outstanding, nothing is completed
-pub complete_none : (m : Meaning) (k : ℕ) → owed m ≡ 0 → m ≡ complete k m
-complete_none m k e =
-    let with_line : List Write → Meaning = λ ws. record { settled = m.settled; outstanding = ws; wear = m.wear } in
-    let none : with_line [] ≡ complete k (with_line []) =
-    λ i. record { settled = settle (sym (take-nil k) i) m.settled; outstanding = sym (drop_all k [] (zero-le {n = k})) i; wear = m.wear } in
-    subst (λ ws. with_line ws ≡ complete k (with_line ws)) (sym (nil_from_length m.outstanding e)) none

@@ -1,14 +1,10 @@
 -- What a surface and the writes that wait for it mean.
-use Rattle.std.specs.Prelude.{ℕ, Bool}
+use Rattle.std.specs.Prelude.{ℕ}
 use Rattle.drive.specs.declared.backlog.Backlog.{Backlog}
-use Rattle.drive.specs.Each.{sound}
 use Rattle.drive.specs.Meaning.{Meaning}
 use Rattle.drive.specs.Queues.{line}
-use Rattle.drive.specs.Surfaces.{disk}
+use Rattle.drive.specs.Disks.{disk}
 
 -- the meaning of a drive that holds the backlog and has the wear w
 abbrev pub held : Backlog → ℕ → Meaning
-held b w = record { settled = disk b.surface; outstanding = line b.queue; wear = w }
-
-abbrev pub is_sound : Backlog → Bool
-is_sound b = sound (disk b.surface) (line b.queue)
+held b w = record { settled = disk b.surface; outstanding = line b.queue.items; wear = w }

@@ -1,5 +1,5 @@
 -- Tests of every element of a list, as the ghost fields state them.
-use Rattle.std.specs.Prelude.{ℕ, Bool, true, ◌&&◌, List, [], ◌∷◌, length, nat_lt}
+use Rattle.std.specs.Prelude.{ℕ, Bool, true, ◌&&◌, List, [], ◌∷◌, nat_lt}
 use Rattle.drive.specs.Meaning.{State, readable, spoiled, Write}
 
 -- whether each element passes a test
@@ -19,7 +19,3 @@ holds_bytes spoiled = true
 -- whether each write is to an address below n
 abbrev pub all_below : ℕ → List Write → Bool
 all_below n ws = each (λ w. nat_lt w.at n) ws
-
--- whether each write is to a record, and each record that can be read is bytes
-abbrev pub sound : List State → List Write → Bool
-sound ss ws = all_below (length ss) ws && each holds_bytes ss

@@ -2,6 +2,8 @@
 use Rattle.std.specs.Prelude.{ℕ, cond, ◌&&◌, Ok, Err, Result, nat_le}
 use Rattle.drive.specs.declared.fault.Question.{Question}
 use Rattle.drive.specs.declared.fault.Question.TheVariants.{PageLength, Phase, Believed, LabelState, TallyLength, File, EntryNumber, Meter, EntryShown, Slot, Grant, Ticket, Room, AtRest, Settled, Limits, RecordLength, Address, Readable, Depth, Life}
+use Rattle.drive.specs.declared.fault.Layer.{Layer}
+use Rattle.drive.specs.declared.fault.Layer.TheVariants.{Drive, Entries, Volume}
 use Rattle.drive.specs.declared.fault.Fault.{Fault}
 
 abbrev pub number_of : Question → ℕ
@@ -31,6 +33,11 @@ number_of Life = 25
 abbrev pub layer_of : ℕ → ℕ
 layer_of n = cond (nat_le 21 n && nat_le n 25) 1 (cond (nat_le 7 n && nat_le n 10) 2 3)
 
+abbrev pub layer_number : Layer → ℕ
+layer_number Drive = 1
+layer_number Entries = 2
+layer_number Volume = 3
+
 -- what a refusal tells
 pub record Refusal : Type 0 where
   pub number : ℕ
@@ -52,3 +59,8 @@ told f = refusal (number_of f.question) f.address
 abbrev pub said : {X : Type 0} → Result X Fault → Result X Refusal
 said (Ok x) = Ok x
 said (Err f) = Err (told f)
+
+-- an answer, without what it hands over
+abbrev pub answered : {X E : Type 0} → Result X E → Result (Unit {0}) E
+answered (Ok x) = Ok tt
+answered (Err f) = Err f

@@ -1,5 +1,5 @@
 -- The meaning of each kind of drive is well formed.
-use Rattle.std.specs.Prelude.{◌≡◌, ℕ, zero, suc, ◌*◌, ◌<◌, Bool, true, false, cond, ltb, List, [], ◌∷◌, length, take, drop, ◌==◌, nat_lt, slice_index, slice_index_or}
+use Rattle.std.specs.Prelude.{◌≡◌, ℕ, ◌*◌, ◌<◌, Bool, true, false, cond, ltb, List, [], ◌∷◌, length, take, drop, ◌==◌, nat_lt, slice_index, slice_index_or}
 use Rattle.std.proofs.Common.{sym, subst, arith}
 use Rattle.std.specs.List.{AllByRecursion}
 use Rattle.std.proofs.lemmas.List.FromFn.{length-map-range_with_len, get_or-map-range_with_len}
@@ -10,12 +10,13 @@ use Rattle.drive.specs.declared.backlog.Backlog.{Backlog}
 use Rattle.drive.specs.declared.card.Card.{Card}
 use Rattle.drive.specs.declared.queued.Queued.{Queued}
 use Rattle.drive.specs.declared.surface.Surface.{Surface}
-use Rattle.drive.specs.Backlogs.{held, is_sound}
+use Rattle.drive.specs.Backlogs.{held}
 use Rattle.drive.specs.Each.{each, all_bytes, holds_bytes, all_below}
 use Rattle.drive.specs.Kinds.{of_card}
 use Rattle.drive.specs.Meaning.{State, readable, spoiled, Write, EveryWrite, RecordBytes, WellFormedState, WellFormed}
-use Rattle.drive.specs.Queues.{front, line}
-use Rattle.drive.specs.Surfaces.{extent, cell, states, disk}
+use Rattle.drive.specs.Queues.{line}
+use Rattle.drive.specs.Surfaces.{extent, cell, states}
+use Rattle.drive.specs.Disks.{disk}
 
 pub all_from_each : {X : Type 0} (test : X → Bool) (xs : List X) → each test xs ≡ true → AllByRecursion (λ x. test x ≡ true) xs
 unfolding each
@@ -48,24 +49,20 @@ full_states bytes marks a sized h =
     let long : length (take 512 (drop (a * 512) bytes)) ≡ 512 = simp (length-take, length-drop) (omega arith) in
     subst WellFormedState (sym is) (full_cell (slice_index marks a == 0) (take 512 (drop (a * 512) bytes)) long (subst Sized is here))
 
-full_front : (n k : ℕ) (qs : List Queued) → all_below n (front qs k) ≡ true → EveryWrite (λ w. (w.at < n) × RecordBytes w.bytes) (front qs k)
+full_line : (n : ℕ) (qs : List Queued) → all_below n (line qs) ≡ true → EveryWrite (λ w. (w.at < n) × RecordBytes w.bytes) (line qs)
 unfolding each
-full_front n zero qs h = tt
-full_front n (suc k) [] h = tt
-full_front n (suc k) (q ∷ qs) h =
-    let p = and_parts (nat_lt q.at n) (all_below n (front qs k)) h in
-    ((ltb-true q.at n p.0, record_bytes q.bytes q.full q.sized), full_front n k qs p.1)
+full_line n [] h = tt
+full_line n (q ∷ qs) h =
+    let p = and_parts (nat_lt q.at n) (all_below n (line qs)) h in
+    ((ltb-true q.at n p.0, record_bytes q.bytes q.full q.sized), full_line n qs p.1)
 
-formed : (s : Surface) (ws : List Write) (w : ℕ) → each holds_bytes (disk s) ≡ true → EveryWrite (λ v. (v.at < length (disk s)) × RecordBytes v.bytes) ws → WellFormed (record { settled = disk s; outstanding = ws; wear = w })
-formed s ws w sized inside =
+formed : (s : Surface) (ws : List Write) (w : ℕ) → EveryWrite (λ v. (v.at < length (disk s)) × RecordBytes v.bytes) ws → WellFormed (record { settled = disk s; outstanding = ws; wear = w })
+formed s ws w inside =
     let few = length_states s.bytes.now s.marks.now in
-    record { small = omega arith; inside = inside; full = λ a h. full_states s.bytes.now s.marks.now a sized h }
+    record { small = omega arith; inside = inside; full = λ a h. full_states s.bytes.now s.marks.now a s.sized h }
 
 pub card_formed : (c : Card) → WellFormed (of_card c)
-card_formed c = formed c.surface [] c.wear c.sized tt
+card_formed c = formed c.surface [] c.wear tt
 
-pub held_formed : (b : Backlog) (w : ℕ) → is_sound b ≡ true → WellFormed (held b w)
-held_formed b w h =
-    let n = length (disk b.surface) in
-    let p = and_parts (all_below n (line b.queue)) (each holds_bytes (disk b.surface)) h in
-    formed b.surface (line b.queue) w p.1 (full_front n b.queue.count b.queue.writes p.0)
+pub held_formed : (b : Backlog) (w : ℕ) → WellFormed (held b w)
+held_formed b w = formed b.surface (line b.queue.items) w (full_line (length (disk b.surface)) b.queue.items b.inside)

@@ -4,6 +4,7 @@ pub mod Cuts
 pub mod Answers
 pub mod Laws
 pub mod Surfaces
+pub mod Disks
 pub mod Each
 pub mod Queues
 pub mod Backlogs

@@ -1,33 +1,34 @@
 // The questions that every kind of drive puts, in their order.
-ghost use Rattle.std.specs.Prelude.{◌≡◌};
+ghost use Rattle.std.specs.Prelude.{◌≡◌, ◌<◌, IfOk, OnOk, length};
 ghost use Rattle.drive.specs.Answers.{address_answer, room_answer};
-ghost use Rattle.drive.specs.Faults.{said};
+ghost use Rattle.drive.specs.Faults.{said, answered};
 
+use crate::device::Kind;
 use crate::fault::{Fault, Question};
 
 pub const RECORD: usize = 512;
 
-// Is the page of `length` bytes a record's, and the address below `size`?
-pub fn ask_address(length: usize, at: u16, size: usize) -> Result<(), Fault>
-    ensures { said result ≡ address_answer length at size }
+// Is the page a record's, and the address below `size`? If so, the page as a record's bytes.
+pub fn ask_record(page: &[u8], at: u16, size: usize) -> Result<&[u8; 512], Fault>
+    ensures answer { said (answered result) ≡ address_answer (length page.now) at size }
+    ensures bytes { IfOk result (λ bytes. bytes.now ≡ page.now) }
 {
-    if length != RECORD {
-        return Err(Question::RecordLength.at(at));
-    }
+    let bytes = page.as_array().ok_or(Question::RecordLength.at(at))?;
     if usize::from(at) >= size {
         return Err(Question::Address.at(at));
     }
-    Ok(())
+    Ok(bytes)
 }
 
-// Is there room for one more write, and life for it?
-pub fn ask_room(depth: usize, life: u32, owed: usize, wear: u32, at: u16) -> Result<(), Fault>
-    ensures { said result ≡ room_answer depth life owed wear at }
+// Has a drive of this kind room for one more write, and life for it?
+pub fn ask_room<K: Kind>(owed: usize, wear: u32, at: u16) -> Result<(), Fault>
+    ensures answer { said result ≡ room_answer K.DEPTH K.LIFE owed wear at }
+    ensures counted { OnOk result (wear < 4294967295) }
 {
-    if owed >= depth {
+    if owed >= K::DEPTH {
         return Err(Question::Depth.at(at));
     }
-    if wear >= life {
+    if wear >= K::LIFE {
         return Err(Question::Life.at(at));
     }
     Ok(())

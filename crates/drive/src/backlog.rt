@@ -1,31 +1,35 @@
-// A surface, and the writes that wait to be settled on it.
-ghost use Rattle.std.specs.Prelude.{◌≡◌, ℕ, ◌+◌, ◌<◌, ◌≤◌, true, [], length, slice_set};
-ghost use Rattle.drive.specs.Backlogs.{held, is_sound};
-ghost use Rattle.drive.specs.Each.{each, holds_bytes};
-ghost use Rattle.drive.specs.Meaning.{readable, size, owed, shown, pending, posted, complete};
+// A surface, and up to four writes that wait to be settled on it, oldest first.
+ghost use Rattle.std.specs.Prelude.{◌≡◌, ℕ, ◌+◌, ◌<◌, ◌≤◌, true, [], ◌∷◌, length, ◌==◌, reverse};
+ghost use Rattle.std.specs.List.{find};
+ghost use Rattle.std.specs.Option.{option_copied};
 ghost use Rattle.drive.specs.Queues.{line};
-ghost use Rattle.drive.specs.Surfaces.{states, disk, Fetched, SameMemory};
+ghost use Rattle.drive.specs.Each.{all_below};
+ghost use Rattle.drive.specs.Meaning.{readable, size, owed, shown, pending, posted, complete};
+ghost use Rattle.drive.specs.Disks.{disk, record_state, SameMemory, WorksIn};
+ghost use Rattle.drive.specs.Surfaces.{states};
 
-use crate::queue::Queue;
 use crate::queued::Queued;
 use crate::surface::Surface;
+use arrayvec::ArrayVec;
 
 #[derive(Drop)]
 pub struct Backlog<'a> {
     surface: Surface<'a>,
-    queue: Queue,
+    queue: ArrayVec<Queued, 4>,
+    ghost inside: { all_below (length (disk surface)) (line queue.items) ≡ true },
 }
 
 impl<'a> Backlog<'a> {
+    ghost use Rattle.drive.specs.Backlogs.{held};
+
     pub fn new(bytes: &'a mut [u8], marks: &'a mut [u8]) -> Self
-        ensures empty { (w : ℕ) → held result w ≡ record { settled = states bytes.old marks.old; outstanding = []; wear = w } }
-        ensures fresh { (disk result.surface ≡ states bytes.old marks.old) × (line result.queue ≡ []) }
-        ensures kept { is_sound result ≡ true }
-        ensures lent { (result.surface.bytes.ghost_name ≡ bytes.entry.ghost_name) × (result.surface.marks.ghost_name ≡ marks.entry.ghost_name) }
+        ensures settled { disk result.surface ≡ states bytes.old marks.old }
+        ensures empty { line result.queue.items ≡ [] }
+        ensures lent { WorksIn result.surface bytes.entry marks.entry }
     {
         Backlog {
             surface: Surface::new(bytes, marks),
-            queue: Queue::new(),
+            queue: ArrayVec::new(),
         }
     }
 
@@ -45,64 +49,46 @@ impl<'a> Backlog<'a> {
     pub fn holds(&self, at: u16) -> bool
         ensures { result ≡ pending (held self.now 0) at }
     {
-        self.queue.holds(at)
+        self.queue.iter().any(|write| write.at == at)
     }
 
-    // Fills the page with what the address shows, unless that is spoiled.
-    pub fn fetch(&self, at: u16, page: &mut [u8]) -> bool
-        requires within { at < size (held self.now 0) }
-        requires paged { length page.old ≡ 512 }
-        ensures { Fetched (shown (held self.now 0) at) result page.old page.new }
+    // The youngest write to the address.
+    fn youngest(&self, at: u16) -> Option<&Queued>
+        ensures { option_copied result ≡ find (λ q. q.at == at) (reverse self.now.queue.items) }
     {
-        self.queue.fetch(at, page) || self.surface.fetch(usize::from(at), page)
+        self.queue.iter().rev().find(|write| write.at == at)
+    }
+
+    // The bytes that the address shows, unless it is spoiled.
+    pub fn shown(&self, at: u16) -> Option<&[u8; 512]>
+        requires { at < size (held self.now 0) }
+        ensures { record_state result ≡ shown (held self.now 0) at }
+    {
+        match self.youngest(at) {
+            Some(youngest) => Some(&youngest.bytes),
+            None => self.surface.shown(at),
+        }
     }
 
     // Lets one more write wait.
-    pub fn push(&mut self, at: u16, page: &[u8])
-        requires sound { is_sound self.old ≡ true }
+    pub fn push(&mut self, at: u16, bytes: &[u8; 512])
         requires room { owed (held self.old 0) < 4 }
         requires within { at < size (held self.old 0) }
-        requires paged { length page.now ≡ 512 }
-        ensures waits { (w : ℕ) → held self.new (w + 1) ≡ posted (held self.old w) at page.now }
-        ensures kept { is_sound self.new ≡ true }
+        ensures waits { (w : ℕ) → held self.new (w + 1) ≡ posted (held self.old w) at bytes.now }
         ensures lent { SameMemory self.old.surface self.new.surface }
     {
-        self.queue.push(at, page);
-    }
-
-    // Settles the oldest write, if there is one.
-    pub fn complete_oldest(&mut self)
-        requires sound { is_sound self.old ≡ true }
-        ensures settled { (w : ℕ) → held self.new w ≡ complete 1 (held self.old w) }
-        ensures kept { is_sound self.new ≡ true }
-        ensures lent { SameMemory self.old.surface self.new.surface }
-    {
-        let Some(oldest) = self.queue.pop() else {
-            return;
-        };
-        self.settle(&oldest);
-    }
-
-    // Puts a write into its record.
-    fn settle(&mut self, write: &Queued)
-        requires { write.now.at < size (held self.old 0) }
-        ensures records { disk self.new.surface ≡ slice_set (disk self.old.surface) write.now.at (readable write.now.bytes) }
-        ensures queue { self.new.queue ≡ self.old.queue }
-        ensures sized { each holds_bytes (disk self.old.surface) ≡ true → each holds_bytes (disk self.new.surface) ≡ true }
-        ensures lent { SameMemory self.old.surface self.new.surface }
-    {
-        self.surface.settle(usize::from(write.at), &write.bytes);
+        self.queue.push(Queued { at, bytes: *bytes });
     }
 
     // Settles the oldest `count` writes, or all where there are fewer.
     pub fn complete(&mut self, count: usize)
-        requires sound { is_sound self.old ≡ true }
         ensures settled { (w : ℕ) → held self.new w ≡ complete count (held self.old w) }
-        ensures kept { is_sound self.new ≡ true }
         ensures lent { SameMemory self.old.surface self.new.surface }
     {
-        for _ in 0..count {
-            self.complete_oldest();
+        let count = count.min(self.queue.len());
+        for write in &self.queue[..count] {
+            self.surface.settle(write.at, &write.bytes);
         }
+        self.queue.drain(..count);
     }
 }

@@ -8,24 +8,29 @@ use crate::fault::Fault;
 
 // A kind of drive: how many writes may be outstanding, and how many it ever accepts.
 pub trait Kind {
+    ghost DEPTH: { ℕ };
+
+    ghost LIFE: { ℕ };
+
     const DEPTH: usize;
 
     const LIFE: u32;
 
-    // What the two constants are, for the clauses.
-    ghost depth: { ℕ };
-
-    ghost life: { ℕ };
-
     fn most_owed() -> usize
-        ensures { result ≡ depth };
+        ensures { result ≡ DEPTH }
+    {
+        Self::DEPTH
+    }
 
     fn whole_life() -> u32
-        ensures { result ≡ life };
+        ensures { result ≡ LIFE }
+    {
+        Self::LIFE
+    }
 
-    ghost deep: { 1 ≤ depth };
+    ghost deep: { 1 ≤ DEPTH };
 
-    ghost lasting: { 1 ≤ life };
+    ghost lasting: { 1 ≤ LIFE };
 }
 
 pub trait Drive {
@@ -43,7 +48,7 @@ pub trait Drive {
 
     // Accepts a write, and completes some of the oldest.
     fn post(&mut self, at: u16, page: &[u8]) -> Result<(), Fault>
-        ensures answer { said result ≡ post_answer Self.Of.Kind.depth Self.Of.Kind.life (meaning self.old) at (length page.now) }
+        ensures answer { said result ≡ post_answer Self.Of.DEPTH Self.Of.LIFE (meaning self.old) at (length page.now) }
         ensures after { PostLeaves result (meaning self.old) at page.now (meaning self.new) };
 
     // Completes at least the oldest write, if there is one, and answers how many remain.
@@ -58,11 +63,11 @@ pub trait Drive {
     // How many writes are outstanding: at most the depth.
     fn owed(&self) -> usize
         ensures value { result ≡ owed (meaning self.now) }
-        ensures bound { result ≤ Self.Of.Kind.depth };
+        ensures bound { result ≤ Self.Of.DEPTH };
 
     // How many writes will still be accepted: the life less the wear, which never passes it.
     fn left(&self) -> u32
-        ensures value { result + (meaning self.now).wear ≡ Self.Of.Kind.life };
+        ensures value { result + (meaning self.now).wear ≡ Self.Of.LIFE };
 
     // How many records there are.
     fn size(&self) -> usize

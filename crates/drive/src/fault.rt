@@ -1,6 +1,6 @@
 // Why a call is refused: the first question that was answered no, and the record it concerns.
 ghost use Rattle.std.specs.Prelude.{◌≡◌};
-ghost use Rattle.drive.specs.Faults.{number_of, layer_of, no_record};
+ghost use Rattle.drive.specs.Faults.{number_of, layer_of, layer_number, no_record};
 
 use std::error::Error;
 use std::fmt;
@@ -52,13 +52,21 @@ pub enum Question {
     Life = 25,
 }
 
+// The layers that put the questions, each under its number.
+#[derive(Clone, Copy, PartialEq, Eq, Debug)]
+pub enum Layer {
+    Drive = 1,
+    Entries = 2,
+    Volume = 3,
+}
+
 #[derive(Clone, Copy, PartialEq, Eq, Debug)]
 pub struct Fault {
     pub question: Question,
     pub address: u16,
 }
 
-// The address of a fault that concerns no record.
+// The address of a fault that concerns no record: the rules of a refusal name this number, so it stays one.
 pub const NO_RECORD: u16 = 65535;
 
 impl Question {
@@ -67,6 +75,33 @@ impl Question {
         ensures { result ≡ number_of self }
     {
         self as u8
+    }
+
+    // The layer that puts the question.
+    pub fn layer(self) -> Layer
+        ensures { layer_number result ≡ layer_of (number_of self) }
+    {
+        match self {
+            Question::RecordLength
+            | Question::Address
+            | Question::Readable
+            | Question::Depth
+            | Question::Life => Layer::Drive,
+            Question::EntryNumber | Question::Meter | Question::EntryShown | Question::Slot =>
+                Layer::Entries,
+            Question::PageLength
+            | Question::Phase
+            | Question::Believed
+            | Question::LabelState
+            | Question::TallyLength
+            | Question::File
+            | Question::Grant
+            | Question::Ticket
+            | Question::Room
+            | Question::AtRest
+            | Question::Settled
+            | Question::Limits => Layer::Volume,
+        }
     }
 
     // A refusal that names the record at an address.
@@ -94,15 +129,11 @@ impl Fault {
         self.question.number()
     }
 
-    // The layer that put the question: 1 for the drive, 2 for the entries, 3 for the volume.
+    // The number of the layer that put the question: 1 for the drive, 2 for the entries, 3 for the volume.
     pub fn layer(&self) -> u8
         ensures { result ≡ layer_of (number_of self.now.question) }
     {
-        match self.number() {
-            21..=25 => 1,
-            7..=10 => 2,
-            _ => 3,
-        }
+        self.question.layer() as u8
     }
 }
 

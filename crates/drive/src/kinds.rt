@@ -7,73 +7,49 @@ use crate::device::Kind;
 pub struct CardKind {}
 
 impl Kind for CardKind {
+    ghost DEPTH = { 1 };
+
+    ghost LIFE = { 4294967295 };
+
     const DEPTH: usize = 1;
 
     const LIFE: u32 = 4294967295;
 
-    ghost depth = { 1 };
-
-    ghost life = { 4294967295 };
-
     ghost deep = { Prim.search rules };
 
     ghost lasting = { Prim.search rules };
-
-    fn most_owed() -> usize {
-        Self::DEPTH
-    }
-
-    fn whole_life() -> u32 {
-        Self::LIFE
-    }
 }
 
 #[derive(Drop)]
 pub struct CabinetKind {}
 
 impl Kind for CabinetKind {
+    ghost DEPTH = { 4 };
+
+    ghost LIFE = { 1000000 };
+
     const DEPTH: usize = 4;
 
     const LIFE: u32 = 1000000;
 
-    ghost depth = { 4 };
-
-    ghost life = { 1000000 };
-
     ghost deep = { Prim.search rules };
 
     ghost lasting = { Prim.search rules };
-
-    fn most_owed() -> usize {
-        Self::DEPTH
-    }
-
-    fn whole_life() -> u32 {
-        Self::LIFE
-    }
 }
 
 #[derive(Drop)]
 pub struct LabKind {}
 
 impl Kind for LabKind {
+    ghost DEPTH = { 3 };
+
+    ghost LIFE = { 5000 };
+
     const DEPTH: usize = 3;
 
     const LIFE: u32 = 5000;
 
-    ghost depth = { 3 };
-
-    ghost life = { 5000 };
-
     ghost deep = { Prim.search rules };
 
     ghost lasting = { Prim.search rules };
-
-    fn most_owed() -> usize {
-        Self::DEPTH
-    }
-
-    fn whole_life() -> u32 {
-        Self::LIFE
-    }
 }

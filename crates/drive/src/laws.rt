@@ -1,32 +1,22 @@
 // Laws of a drive's meaning, each on the contract of a function.
 ghost use Rattle.drive.specs.Laws.{CompletingChangesNothingShown, CompletingAddsNoImage, ACutKeepsWhatHasNothingOutstanding, APostedWriteIsShownAndNoOtherAddressChanges, WritesCompleteOldestFirst};
 
-pub fn completing_changes_nothing_shown() -> u8
+pub fn completing_changes_nothing_shown()
     ensures { CompletingChangesNothingShown }
-{
-    0
-}
+{}
 
-pub fn completing_adds_no_image() -> u8
+pub fn completing_adds_no_image()
     ensures { CompletingAddsNoImage }
-{
-    0
-}
+{}
 
-pub fn a_cut_keeps_what_has_nothing_outstanding() -> u8
+pub fn a_cut_keeps_what_has_nothing_outstanding()
     ensures { ACutKeepsWhatHasNothingOutstanding }
-{
-    0
-}
+{}
 
-pub fn a_posted_write_is_shown_and_no_other_address_changes() -> u8
+pub fn a_posted_write_is_shown_and_no_other_address_changes()
     ensures { APostedWriteIsShownAndNoOtherAddressChanges }
-{
-    0
-}
+{}
 
-pub fn writes_complete_oldest_first() -> u8
+pub fn writes_complete_oldest_first()
     ensures { WritesCompleteOldestFirst }
-{
-    0
-}
+{}

@@ -3,6 +3,7 @@
 
 mod asking;
 mod backlog;
+pub mod buffered;
 pub mod cabinet;
 pub mod card;
 pub mod device;
@@ -10,6 +11,6 @@ pub mod fault;
 pub mod kinds;
 pub mod lab;
 pub mod laws;
-mod queue;
+pub mod pace;
 mod queued;
 mod surface;

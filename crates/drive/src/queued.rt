@@ -9,3 +9,13 @@ pub struct Queued {
     ghost full: { length bytes ≡ 512 },
     ghost sized: { all_bytes bytes ≡ true },
 }
+
+// A place of a queue that holds no write. A derive makes no default of a struct with ghost fields.
+impl Default for Queued {
+    fn default() -> Self {
+        Queued {
+            at: 0,
+            bytes: [0; 512],
+        }
+    }
+}

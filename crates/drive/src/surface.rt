@@ -1,8 +1,8 @@
 // Records of 512 bytes that lie in bytes handed in, with a mark byte for each: not 0 where the record is spoiled.
 ghost use Rattle.std.specs.Prelude.{◌≡◌, ◌<◌, true, length, slice_index_or, slice_set};
-ghost use Rattle.drive.specs.Each.{each, all_bytes, holds_bytes};
+ghost use Rattle.drive.specs.Each.{each, holds_bytes};
 ghost use Rattle.drive.specs.Meaning.{readable, spoiled};
-ghost use Rattle.drive.specs.Surfaces.{extent, states, disk, Fetched, SameMemory};
+ghost use Rattle.drive.specs.Surfaces.{extent, states};
 
 use crate::asking::RECORD;
 
@@ -13,13 +13,7 @@ pub const MOST_RECORDS: usize = 65535;
 pub struct Surface<'a> {
     bytes: &'a mut [u8],
     marks: &'a mut [u8],
-}
-
-// States what the type says, each byte is below 256: the prover knows it once the slice is looked at.
-fn bytes_fit(bytes: &[u8])
-    ensures { all_bytes bytes.now ≡ true }
-{
-    let _ = bytes.is_empty();
+    ghost sized: { each holds_bytes (states bytes.now marks.now) ≡ true },
 }
 
 // How many records there are in so many bytes with so many marks.
@@ -30,12 +24,12 @@ fn extent(bytes: usize, marks: usize) -> usize
 }
 
 impl<'a> Surface<'a> {
+    ghost use Rattle.drive.specs.Disks.{disk, record_state, SameMemory, WorksIn};
+
     pub fn new(bytes: &'a mut [u8], marks: &'a mut [u8]) -> Self
         ensures records { disk result ≡ states bytes.old marks.old }
-        ensures sized { each holds_bytes (disk result) ≡ true }
-        ensures lent { (result.bytes.ghost_name ≡ bytes.entry.ghost_name) × (result.marks.ghost_name ≡ marks.entry.ghost_name) }
+        ensures lent { WorksIn result bytes.entry marks.entry }
     {
-        bytes_fit(bytes);
         Surface { bytes, marks }
     }
 
@@ -45,30 +39,28 @@ impl<'a> Surface<'a> {
         extent(self.bytes.len(), self.marks.len())
     }
 
-    // Fills the page from a record, unless that is spoiled.
-    pub fn fetch(&self, at: usize, page: &mut [u8]) -> bool
-        requires within { at < length (disk self.now) }
-        requires paged { length page.old ≡ 512 }
-        ensures { Fetched (slice_index_or (disk self.now) at spoiled) result page.old page.new }
+    // A record's bytes, unless it is spoiled.
+    pub fn shown(&self, at: u16) -> Option<&[u8; 512]>
+        requires { at < length (disk self.now) }
+        ensures { record_state result ≡ slice_index_or (disk self.now) at spoiled }
     {
+        let at = usize::from(at);
         if self.marks[at] != 0 {
-            return false;
+            return None;
         }
         let from = at * RECORD;
-        page.copy_from_slice(&self.bytes[from..from + RECORD]);
-        true
+        self.bytes[from..from + RECORD].as_array()
     }
 
     // Writes a record, which then is readable.
-    pub fn settle(&mut self, at: usize, page: &[u8])
-        requires within { at < length (disk self.old) }
-        requires paged { length page.now ≡ 512 }
-        ensures records { disk self.new ≡ slice_set (disk self.old) at (readable page.now) }
-        ensures sized { each holds_bytes (disk self.old) ≡ true → each holds_bytes (disk self.new) ≡ true }
+    pub fn settle(&mut self, at: u16, bytes: &[u8; 512])
+        requires { at < length (disk self.old) }
+        ensures records { disk self.new ≡ slice_set (disk self.old) at (readable bytes.now) }
         ensures lent { SameMemory self.old self.new }
     {
+        let at = usize::from(at);
         let from = at * RECORD;
-        self.bytes[from..from + RECORD].copy_from_slice(page);
+        self.bytes[from..from + RECORD].copy_from_slice(bytes);
         self.marks[at] = 0;
     }
 }

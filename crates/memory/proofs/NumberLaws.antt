@@ -1,15 +1,7 @@
--- The front of a list without its first, and a list that is parted into what is given and what stays.
-use Rattle.std.proofs.Common.{◌≡◌, ℕ, zero, suc, ◌-◌, ◌<◌, ◌≤◌, true, false, eqb, ◌⊎◌, List, [], ◌∷◌, ◌++◌, length, get_or, take, drop, refl, ap, ◌∙◌, inl, inr, sub-one, arith}
+-- A list that is parted into what is given and what stays.
+use Rattle.std.proofs.Common.{◌≡◌, ℕ, zero, suc, ◌-◌, ◌<◌, true, false, eqb, ◌⊎◌, List, [], ◌∷◌, ◌++◌, refl, ap, ◌∙◌, inl, inr, sub-one, arith}
 use Rattle.std.proofs.lemmas.List.{append_assoc}
 use Rattle.model.specs.Stock.{cover, given, staying}
-
--- the front of a list is the list's first and the rest of the front
-pub front_first : (xs : List ℕ) (n : ℕ) → 0 < n → n ≤ length xs → take n xs ≡ get_or xs 0 0 ∷ drop 1 (take n xs)
-front_first xs zero p q = absurd (omega arith)
-front_first [] (suc n) p q = absurd (omega arith)
-front_first (x ∷ xs) (suc n) p q = refl
-
--- ---- what is given, and what stays
 
 given_none : (k : ℕ) (xs : List ℕ) → given k 0 xs ≡ []
 given_none k [] = refl

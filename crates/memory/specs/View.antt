@@ -1,22 +1,24 @@
 -- The memory as the plans speak of it.
-use Rattle.memory.specs.declared.state.Memory.{Memory}
-use Rattle.memory.specs.Numbers.{listed}
+use Rattle.memory.specs.declared.state.Memory.TheInside.{Inside}
 use Rattle.model.specs.Memory as model
-use Rattle.std.specs.Prelude.{◌≡◌, ℕ, List, Ok, Err, Result}
+use Rattle.std.specs.Prelude.{◌≡◌, ℕ, Bool, List, Ok, Err, Result}
 use Rattle.drive.specs.Faults.{Refusal}
 use Rattle.record.specs.declared.label.Label.{Label}
 use Rattle.record.specs.declared.label.LabelState.{LabelState}
-use Rattle.model.specs.declared.memory.Phase.TheVariants.{Open}
+use Rattle.model.specs.declared.memory.Phase.{Phase}
+use Rattle.model.specs.declared.memory.Phase.TheVariants.{Shut, Open, Closing}
+use Rattle.model.specs.Plans.{is_shut, is_open, is_closing}
 use Rattle.model.specs.Outcomes.{Reply, Outcome, refuse, keep}
 
-abbrev pub view : Memory → model.Memory
-view v =
+-- what the fields stand for
+abbrev pub kept : Inside → model.Memory
+kept v =
     record {
       phase = v.phase;
       chart = v.chart;
       counts = v.counts;
-      service = listed v.service;
-      unsettled = listed v.unsettled;
+      service = v.service.items;
+      unsettled = v.unsettled.items;
       tickets = v.tickets;
       files = v.files;
       id = v.id;
@@ -53,3 +55,9 @@ opened_as v l counts =
       entries = l.entries;
       trouble = l.trouble;
     }
+
+-- the phase is the one that is wanted
+abbrev pub is_phase : Phase → Phase → Bool
+is_phase Shut p = is_shut p
+is_phase Open p = is_open p
+is_phase Closing p = is_closing p

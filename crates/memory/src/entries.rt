@@ -1,23 +1,20 @@
 // The questions and the moves of entries: which one a file may take, and the slots of a file.
 ghost use Rattle.std.specs.Prelude.{◌≡◌, ◌+◌, ◌<◌, not, ◌&&◌, map, OnOk, ◌==◌, nat_lt};
+ghost use Rattle.std.specs.List.{list_any};
 ghost use Rattle.drive.specs.Faults.{said};
 ghost use Rattle.memory.specs.Slots.{slot_changed};
 ghost use Rattle.model.specs.Carried.{asked, or_refused, or_refused_at};
-ghost use Rattle.model.specs.Memory.{in_some_file};
+ghost use Rattle.model.specs.Memory.{is_entry, in_some_file};
 ghost use Rattle.model.specs.Plans.{slot_of, and_then, empty_slot, entry_when, is_free};
 ghost use Rattle.model.specs.Slots.{with_slot, page_of, cleared, left_address, live_address, loaded, all_at_rest};
 
 use drive::fault::{Fault, Question};
 use model::memory::{File, Slot};
 use record::entry::Entry;
-
-// The record of entry 0.
-const FIRST_ENTRY: u16 = 8;
-
-// How many slots a file has.
-const SLOTS: usize = 64;
+use record::region::FIRST_ENTRY;
 
 // Is the entry number below the number of entries, and in no file?
+#[tactic(auto, using(crate::proofs::TableLaws::in_some))]
 pub fn ask_number(files: &[Option<File>; 8], entries: u16, number: u16) -> Result<(), Fault>
     ensures taken { said result ≡ asked 7 (nat_lt number entries && not (in_some_file files.now number)) }
     ensures below { OnOk result (number < entries) }
@@ -29,16 +26,11 @@ pub fn ask_number(files: &[Option<File>; 8], entries: u16, number: u16) -> Resul
 }
 
 fn is_in_some_file(files: &[Option<File>], number: u16) -> bool
-    ensures { result ≡ in_some_file files.now number }
+    ensures { result ≡ list_any (λ f. is_entry f number) files.now }
 {
-    for file in files {
-        if let Some(used) = file {
-            if used.entry == number {
-                return true;
-            }
-        }
-    }
-    false
+    files
+        .iter()
+        .any(|file| matches!(file, Some(used) if used.entry == number))
 }
 
 // Is the meter number not 0?
@@ -56,10 +48,7 @@ pub fn ask_free(shown: Option<Entry>, number: u16) -> Result<Entry, Fault>
     requires { number < 3968 }
     ensures { said result ≡ or_refused_at 9 (8 + number) (entry_when is_free shown) }
 {
-    match shown {
-        Some(entry) if entry.is_free() => Ok(entry),
-        _ => Err(Question::EntryShown.at(FIRST_ENTRY + number)),
-    }
+    ask_shown(shown.filter(|entry| entry.is_free()), number)
 }
 
 // Does entry `number` show sound, with a meter?
@@ -67,20 +56,22 @@ pub fn ask_metered(shown: Option<Entry>, number: u16) -> Result<Entry, Fault>
     requires { number < 3968 }
     ensures { said result ≡ or_refused_at 9 (8 + number) (entry_when (λ x. not (is_free x)) shown) }
 {
-    match shown {
-        Some(entry) if !entry.is_free() => Ok(entry),
-        _ => Err(Question::EntryShown.at(FIRST_ENTRY + number)),
-    }
+    ask_shown(shown.filter(|entry| !entry.is_free()), number)
+}
+
+// The entry where it shows as the call wants.
+fn ask_shown(wanted: Option<Entry>, number: u16) -> Result<Entry, Fault>
+    requires { number < 3968 }
+    ensures { said result ≡ or_refused_at 9 (8 + number) wanted }
+{
+    wanted.ok_or(Question::EntryShown.at(FIRST_ENTRY + number))
 }
 
 // The slot, where the file has it.
 fn slot_of(file: &File, slot: usize) -> Option<Slot>
     ensures { result ≡ slot_of file.now slot }
 {
-    if slot >= SLOTS {
-        return None;
-    }
-    Some(file.slots[slot])
+    file.slots.get(slot).copied()
 }
 
 // Is the slot Empty?
@@ -98,8 +89,7 @@ pub fn page_of(file: &File, slot: usize) -> Result<u16, Fault>
     ensures { said result ≡ or_refused 10 (and_then (slot_of file.now slot) page_of) }
 {
     match slot_of(file, slot) {
-        Some(Slot::Nulled(a)) => Ok(a),
-        Some(Slot::Live(a)) => Ok(a),
+        Some(Slot::Nulled(a) | Slot::Live(a)) => Ok(a),
         _ => Err(Question::Slot.refused()),
     }
 }
@@ -140,27 +130,19 @@ pub fn put(file: &mut File, slot: usize, moved: Slot)
 pub fn are_at_rest(slots: &[Slot]) -> bool
     ensures { result ≡ all_at_rest slots.now }
 {
-    for slot in slots {
-        match slot {
-            Slot::Empty => {}
-            Slot::Live(_) => {}
-            _ => return false,
-        }
-    }
-    true
+    slots
+        .iter()
+        .all(|slot| matches!(slot, Slot::Empty | Slot::Live(_)))
 }
 
 // The slots of a file that takes the entry: each address is Live.
 pub fn load(shown: &Entry) -> [Slot; 64]
     ensures { result ≡ map loaded shown.now.slots }
 {
-    let mut slots = [Slot::Empty; 64];
-    for (p, a) in shown.slots.iter().enumerate() {
-        slots[p] = loaded(*a);
-    }
-    slots
+    shown.slots.map(loaded)
 }
 
+// No `From<u16>`: a number is a slot only where an entry has it.
 fn loaded(a: u16) -> Slot
     ensures { result ≡ loaded a }
 {
@@ -174,13 +156,9 @@ fn loaded(a: u16) -> Slot
 pub fn naming_live(meter: u32, slots: &[Slot; 64]) -> Entry
     ensures { result ≡ record { meter = meter; slots = map live_address slots.now } }
 {
-    let mut addresses = [0u16; 64];
-    for (p, slot) in slots.iter().enumerate() {
-        addresses[p] = live_address(*slot);
-    }
     Entry {
         meter,
-        slots: addresses,
+        slots: slots.map(live_address),
     }
 }
 

@@ -1,23 +1,23 @@
 // Edits of a map section: numbers are taken out of it, and given back to it.
 ghost use Rattle.std.specs.Prelude.{◌≡◌, ◌-◌, ◌<◌, ◌≤◌, length};
+ghost use Rattle.arrayvec.specs.ArrayVec.{array_vec_len};
 ghost use Rattle.record.specs.Regions.{first_of};
 ghost use Rattle.model.specs.Stock.{lowest, all_marked};
-ghost use Rattle.memory.specs.Numbers.{listed};
 
-use crate::numbers::Numbers;
+use arrayvec::ArrayVec;
 use record::region::COVERED;
 use record::section::Section;
 
 // Takes the lowest free numbers of section `k`, at most `most` of them.
-pub fn take_lowest<const N: usize>(section: &mut Section, k: u8, most: usize) -> Numbers<N>
+pub fn take_lowest<const N: usize>(section: &mut Section, k: u8, most: usize) -> ArrayVec<u16, N>
     requires few { most ≤ N }
     requires fits { k < 16 }
-    ensures taken { listed result ≡ lowest section.old.bits k most }
+    ensures taken { result.items ≡ lowest section.old.bits k most }
     ensures left { section.new.bits ≡ all_marked k 0 (lowest section.old.bits k most) section.old.bits }
-    ensures len { length (listed result) ≤ most }
+    ensures len { array_vec_len result ≤ most }
 {
     let first = COVERED as usize * usize::from(k);
-    let mut taken = Numbers::new();
+    let mut taken = ArrayVec::new();
     let mut from = 0;
     while taken.len() < most {
         let Some(r) = section.lowest_free(from) else {
@@ -31,10 +31,10 @@ pub fn take_lowest<const N: usize>(section: &mut Section, k: u8, most: usize) ->
 }
 
 // Frees all of these numbers of section `k`.
-pub fn give_back<const N: usize>(section: &mut Section, k: u8, given: &Numbers<N>)
-    ensures { section.new.bits ≡ all_marked k 1 (listed given.now) section.old.bits }
+pub fn give_back(section: &mut Section, k: u8, given: &[u16])
+    ensures { section.new.bits ≡ all_marked k 1 given.now section.old.bits }
 {
-    for a in given.as_slice() {
+    for a in given {
         section.give(place(*a, k));
     }
 }

@@ -1,11 +1,7 @@
 // What a volume keeps in memory.
-ghost use Rattle.std.specs.Prelude.{◌≡◌, ℕ, ◌+◌, ◌<◌, ◌≤◌, length, None, slice_index_or};
-ghost use Rattle.memory.specs.Bounds.{awaited, number_in};
-ghost use Rattle.memory.specs.Numbers.{listed};
-ghost use Rattle.model.specs.Memory.{used};
-
-use crate::numbers::Numbers;
+use arrayvec::ArrayVec;
 use model::memory::{File, MapState, Phase};
+use std::marker::Model;
 
 pub mod asking;
 pub mod files;
@@ -19,18 +15,24 @@ pub struct Memory {
     phase: Phase,
     chart: MapState,
     counts: [u32; 3],
-    service: Numbers<32>,
-    unsettled: Numbers<32>,
+    service: ArrayVec<u16, 32>,
+    unsettled: ArrayVec<u16, 32>,
     tickets: [Option<u16>; 4],
     files: [Option<File>; 8],
     id: u32,
     entries: u16,
     trouble: u32,
-    ghost few: { length (listed service) + length (listed unsettled) + used tickets ≤ 32 },
-    ghost three: { length counts ≡ 3 },
-    ghost four: { length tickets ≡ 4 },
-    ghost eight: { length files ≡ 8 },
-    ghost settled: { length (listed unsettled) ≤ awaited chart },
-    ghost limited: { entries ≤ 3968 },
-    ghost numbered: { (k : ℕ) → number_in (slice_index_or files k None) < 3968 },
+}
+
+impl Model for Memory {
+    ghost use Rattle.model.specs.Memory as model;
+
+    ghost Value = { model.Memory };
+
+    ghost use Rattle.memory.specs.Bounds.{Sound};
+    ghost use Rattle.memory.specs.View.{kept};
+
+    ghost view = { kept };
+
+    ghost invariant = { λ m. Sound (kept m) };
 }

@@ -28,7 +28,10 @@ pub(crate) fn first_inexact<D: Drive>(
     for k in 0..SECTIONS {
         let mut bytes = [0; RECORD];
         encode_exact(records, k, tally, &mut bytes);
-        if !shows(read_shown(records.drive, FIRST_SECTION + u16::from(k), page), &bytes) {
+        if !shows(
+            read_shown(records.drive, FIRST_SECTION + u16::from(k), page),
+            &bytes,
+        ) {
             return Some(k);
         }
     }

@@ -14,11 +14,7 @@ use record::region::Region;
 const NOTED: u8 = 1;
 
 // Notes the addresses that the sound entries name, and no other.
-pub(crate) fn tally_named<D: Drive>(
-    records: &Records<D>,
-    page: &mut [u8; RECORD],
-    tally: &mut [u8],
-)
+pub(crate) fn tally_named<D: Drive>(records: &Records<D>, page: &mut [u8; RECORD], tally: &mut [u8])
     requires { records.now.label.records ≤ length tally.old }
     ensures { Tallies (pages_of records.now.label) tally.new (named_in records.now.label (shown (D.meaning records.now.drive.now))) }
 {

@@ -1,8 +1,6 @@
 // What no power cut does to the names of records.
 ghost use Rattle.model.specs.NamesLaw.{PowerCutsNeverMixNames};
 
-pub fn power_cuts_never_mix_names() -> u8
+pub fn power_cuts_never_mix_names()
     ensures { PowerCutsNeverMixNames }
-{
-    0
-}
+{}

@@ -21,7 +21,7 @@ pub fn post_entry<D: Drive>(
     page: &mut [u8; RECORD],
 ) -> Result<(), Fault>
     requires { number < 3968 }
-    ensures answer { said result ≡ post_answer D.Of.Kind.depth D.Of.Kind.life (D.meaning drive.old) (entry_at number) (length (entry_bytes id entry.now)) }
+    ensures answer { said result ≡ post_answer D.Of.DEPTH D.Of.LIFE (D.meaning drive.old) (entry_at number) (length (entry_bytes id entry.now)) }
     ensures after { PostLeaves result (D.meaning drive.old) (entry_at number) (entry_bytes id entry.now) (D.meaning drive.new) }
 {
     entry.encode(SUM_START, id, page);

@@ -11,4 +11,4 @@ pub const SECTIONS: u8 = 3;
 
 pub const LABEL_COPY: u16 = 7;
 
-pub const FIRST_ENTRY: u16 = 8;
+pub use record::region::FIRST_ENTRY;

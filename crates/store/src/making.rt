@@ -25,10 +25,10 @@ const FIXED_WRITES: u32 = 5;
 // Makes a new volume: its entries free, its whole page region free, its label closed. The drive's size is the
 // number of records. A refusal changes nothing; the page comes back zero.
 pub fn make<D: Drive>(drive: &mut D, id: u32, entries: u16, page: &mut [u8]) -> Result<(), Fault>
-    ensures answer { said result ≡ make_answer D.Of.Kind.life (D.meaning drive.old) id entries (length page.old) }
+    ensures answer { said result ≡ make_answer D.Of.LIFE (D.meaning drive.old) id entries (length page.old) }
     ensures after { D.meaning drive.new ≡ after_make result (D.meaning drive.old) id entries }
     ensures zero { page.new ≡ replicate (length page.old) 0 }
-    ensures unharmed { LeavesAVolumeNoPowerCutHarms result (record { depth = D.Of.Kind.depth; life = D.Of.Kind.life }) id entries (D.meaning drive.new) }
+    ensures unharmed { LeavesAVolumeNoPowerCutHarms result (record { depth = D.Of.DEPTH; life = D.Of.LIFE }) id entries (D.meaning drive.new) }
 {
     let work = Work(page);
     let record = ask_make(drive, id, entries, &mut *work.0)?;
@@ -44,7 +44,7 @@ fn ask_make<'p, D: Drive>(
     entries: u16,
     page: &'p mut [u8],
 ) -> Result<&'p mut [u8; RECORD], Fault>
-    ensures { told_with (λ _. tt) result ≡ make_answer D.Of.Kind.life (D.meaning drive.now) id entries (length page.old) }
+    ensures { told_with (λ _. tt) result ≡ make_answer D.Of.LIFE (D.meaning drive.now) id entries (length page.old) }
 {
     let record = ask_page(page)?;
     if !in_limits(id, u32::from(entries), drive.size()) {
@@ -65,7 +65,7 @@ fn write_volume<D: Drive>(
 ) -> Result<(), Fault>
     requires sized { in_limits id entries (size (D.meaning drive.old)) ≡ true }
     requires quiet { (D.meaning drive.old).outstanding ≡ [] }
-    requires alive { (D.meaning drive.old).wear + (entries + 5) ≤ D.Of.Kind.life }
+    requires alive { (D.meaning drive.old).wear + (entries + 5) ≤ D.Of.LIFE }
     ensures accepted { result ≡ Ok tt }
     ensures after { D.meaning drive.new ≡ written (new_writes id entries (size (D.meaning drive.old))) (D.meaning drive.old) }
 {
@@ -90,7 +90,7 @@ fn write_entries<D: Drive>(
     requires inside { 8 + label.now.entries ≤ size (D.meaning drive.old) }
     requires small { label.now.entries ≤ 3968 }
     requires quiet { (D.meaning drive.old).outstanding ≡ [] }
-    requires alive { (D.meaning drive.old).wear + label.now.entries ≤ D.Of.Kind.life }
+    requires alive { (D.meaning drive.old).wear + label.now.entries ≤ D.Of.LIFE }
     ensures accepted { result ≡ Ok tt }
     ensures after { D.meaning drive.new ≡ written (writes_of (entry_write label.now.id) label.now.entries) (D.meaning drive.old) }
 {
@@ -105,7 +105,7 @@ fn write_entries<D: Drive>(
 fn write_map<D: Drive>(drive: &mut D, label: &Label, page: &mut [u8; RECORD]) -> Result<(), Fault>
     requires inside { 8 ≤ size (D.meaning drive.old) }
     requires quiet { (D.meaning drive.old).outstanding ≡ [] }
-    requires alive { (D.meaning drive.old).wear + 3 ≤ D.Of.Kind.life }
+    requires alive { (D.meaning drive.old).wear + 3 ≤ D.Of.LIFE }
     ensures accepted { result ≡ Ok tt }
     ensures after { D.meaning drive.new ≡ written (writes_of (section_write label.now.id label.now.entries label.now.records) 3) (D.meaning drive.old) }
 {
@@ -125,7 +125,7 @@ fn write_labels<D: Drive>(
 ) -> Result<(), Fault>
     requires inside { 8 ≤ size (D.meaning drive.old) }
     requires quiet { (D.meaning drive.old).outstanding ≡ [] }
-    requires alive { (D.meaning drive.old).wear + 2 ≤ D.Of.Kind.life }
+    requires alive { (D.meaning drive.old).wear + 2 ≤ D.Of.LIFE }
     ensures accepted { result ≡ Ok tt }
     ensures after { D.meaning drive.new ≡ written (record { at = 7; bytes = label_bytes label.now } ∷ record { at = 0; bytes = label_bytes label.now } ∷ []) (D.meaning drive.old) }
 {

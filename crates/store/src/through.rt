@@ -18,7 +18,7 @@ pub(crate) fn complete_all<D: Drive>(drive: &mut D)
 
 // Posts a write and completes it.
 fn write_through<D: Drive>(drive: &mut D, at: u16, page: &[u8; RECORD]) -> Result<(), Fault>
-    ensures answer { said result ≡ post_answer D.Of.Kind.depth D.Of.Kind.life (D.meaning drive.old) at (length page.now) }
+    ensures answer { said result ≡ post_answer D.Of.DEPTH D.Of.LIFE (D.meaning drive.old) at (length page.now) }
     ensures after { D.meaning drive.new ≡ after_writing result (D.meaning drive.old) at page.now }
 {
     drive.post(at, page)?;
@@ -30,7 +30,7 @@ fn write_through<D: Drive>(drive: &mut D, at: u16, page: &[u8; RECORD]) -> Resul
 pub(crate) fn write_next<D: Drive>(drive: &mut D, at: u16, page: &[u8; RECORD]) -> Result<(), Fault>
     requires inside { at < size (D.meaning drive.old) }
     requires quiet { (D.meaning drive.old).outstanding ≡ [] }
-    requires alive { (D.meaning drive.old).wear < D.Of.Kind.life }
+    requires alive { (D.meaning drive.old).wear < D.Of.LIFE }
     ensures accepted { result ≡ Ok tt }
     ensures after { D.meaning drive.new ≡ calm (posted (D.meaning drive.old) at page.now) }
 {

@@ -1,5 +1,5 @@
 -- What the calls on the map come to.
-use Rattle.std.proofs.Common.{◌≡◌, ℕ, ◌-◌, ◌<◌, ◌≤◌, Bool, true, false, eqb, List, [], ◌∷◌, ◌++◌, length, Some, None, Ok, Err, Option, Result, sym, ap, ◌∙◌, arith}
+use Rattle.std.proofs.Common.{MatchOption, ◌≡◌, ℕ, ◌-◌, ◌<◌, ◌≤◌, Bool, true, false, eqb, List, [], ◌∷◌, ◌++◌, length, Some, None, Ok, Err, Option, Result, slice_get, sym, refl, ap, ◌∙◌, arith}
 use Rattle.std.proofs.lemmas.Bool.{lt-ltb, le-ltb, cond-true, cond-false}
 use Rattle.drive.specs.Answers.{and_then}
 use Rattle.drive.specs.Faults.{Refusal}
@@ -7,7 +7,8 @@ use Rattle.drive.specs.Meaning.{Meaning}
 use Rattle.model.specs.Calls.{Volume}
 use Rattle.model.specs.Carried.{ComesTo, asked}
 use Rattle.model.specs.Memory.{Memory, used}
-use Rattle.model.specs.Outcomes.{Reply, busy, quiet, Outcome, refuse, ask, Rules, keep}
+use Rattle.volumes.specs.Volumes.{section_or}
+use Rattle.model.specs.Outcomes.{Reply, section, busy, quiet, Outcome, refuse, ask, Rules, keep}
 use Rattle.model.specs.Plans.{is_open, is_idle, write_section, take_from, taking, give_oldest, giving, balance_plan}
 use Rattle.model.specs.Shown.{bits_shown}
 use Rattle.model.specs.Stock.{cover, lowest, all_marked, given, staying, counting_free, oldest}
@@ -19,6 +20,10 @@ pub used_within : {X : Type 0} (ts : List (Option X)) → used ts ≤ length ts
 used_within [] = omega arith
 used_within (None ∷ ts) = let i = used_within ts in omega arith
 used_within (Some x ∷ ts) = let i = used_within ts in omega arith
+
+pub first_oldest : (xs : List ℕ) → slice_get xs 0 ≡ oldest xs
+first_oldest [] = refl
+first_oldest (x ∷ xs) = refl
 
 -- ---- the section that is posted
 
@@ -78,3 +83,9 @@ one_no i j false d o f e = cc
 -- what comes to an outcome comes to the plan that leads there
 pub at_plan : (p o : Outcome) (v u : Volume) (a b : Result Reply Refusal) → p ≡ o → b ≡ a → ComesTo o v u a → ComesTo p v u b
 at_plan p o v u a b leads tells done = rw (leads, tells) done
+
+-- what a call tells that posted a section, or else did nothing
+pub section_reply : {X : Type 0} (reply : X → Reply) (otherwise : X) (of : ℕ → X) (r : Reply) (o : Option ℕ) (x : X) → MatchOption o (x ≡ otherwise) (λ k. x ≡ of k)
+    → reply otherwise ≡ r → ((k : ℕ) → reply (of k) ≡ section k) → reply x ≡ section_or r o
+section_reply reply otherwise of r None x e none some = ap reply e ∙ none
+section_reply reply otherwise of r (Some k) x e none some = ap reply e ∙ some k

@@ -1,1 +1,2 @@
+pub mod Salvages
 pub mod Volumes

@@ -1,8 +1,9 @@
 // The stock, what the map is doing, and the volume's label as it was opened.
-ghost use Rattle.std.specs.Prelude.{◌≡◌, ◌+◌, ◌<◌, ◌≤◌, ◌&&◌, [], ◌∷◌, ◌++◌, length, IfSome, ◌==◌, slice_set};
+ghost use Rattle.std.specs.Prelude.{◌≡◌, ◌+◌, ◌<◌, ◌≤◌, ◌&&◌, [], ◌∷◌, ◌++◌, length, IfSome, ◌==◌, nat_lt, slice_set, position};
+ghost use Rattle.arrayvec.specs.ArrayVec.{array_vec_len};
 ghost use Rattle.drive.specs.Faults.{said};
-ghost use Rattle.memory.specs.Numbers.{listed};
-ghost use Rattle.memory.specs.View.{view, label_kept, opened_as};
+ghost use Rattle.memory.specs.Bounds.{Sound};
+ghost use Rattle.memory.specs.View.{label_kept, opened_as};
 ghost use Rattle.model.specs.Carried.{asked};
 ghost use Rattle.model.specs.Memory.{with_phase, with_stock, held};
 ghost use Rattle.model.specs.Plans.{is_idle};
@@ -10,94 +11,91 @@ ghost use Rattle.model.specs.Stock.{counting_free};
 ghost use Rattle.model.specs.declared.memory.MapState.TheVariants.{Idle, Writing};
 ghost use Rattle.model.specs.declared.memory.Phase.TheVariants.{Shut};
 
-use crate::numbers::Numbers;
+use crate::numbers::append;
 use crate::state::Memory;
+use arrayvec::ArrayVec;
 use drive::fault::{Fault, Question};
 use model::memory::{MapState, Phase};
 use record::label::{Label, LabelState};
 
-// How many sections the map has.
-const SECTIONS: u8 = 3;
-
 impl Memory {
     // The lowest section that counts a free address.
+    #[tactic(auto, using(crate::proofs::StateLaws::first_counting))]
     pub fn section_with_free(&self) -> Option<u8>
-        ensures lowest { result ≡ counting_free 0 (view self.now).counts }
+        ensures lowest { result ≡ counting_free 0 self.now.counts }
         ensures bound { IfSome result (λ k. k < 3) }
     {
-        for k in 0..SECTIONS {
-            if self.counts[usize::from(k)] > 0 {
-                return Some(k);
-            }
-        }
-        None
+        let k = lowest_counting(&self.counts)?;
+        Some(k as u8)
     }
 
     // The addresses in service.
-    pub fn service(&self) -> Numbers<32>
-        ensures value { listed result ≡ (view self.now).service }
+    pub fn service(&self) -> &[u16]
+        ensures value { result.now ≡ self.now.service }
+        ensures few { length result.now ≤ 32 }
+        ensures sound { Sound self.now }
     {
-        self.service
+        &self.service
     }
 
     // The section that is being written.
     pub fn chart(&self) -> MapState
-        ensures { result ≡ (view self.now).chart }
+        ensures { result ≡ self.now.chart }
     {
         self.chart
     }
 
     // Section `k` is being written with so many free addresses; those taken are unsettled until it is.
-    pub fn take(&mut self, k: u8, count: u32, taken: &Numbers<32>)
-        requires { held (view self.old) + length (listed taken.now) ≤ 32 }
-        ensures { view self.new ≡ with_stock (view self.old) (Writing k) (slice_set (view self.old).counts k count) (view self.old).service ((view self.old).unsettled ++ listed taken.now) }
+    pub fn take(&mut self, k: u8, count: u32, taken: &[u16])
+        requires { held self.old + length taken.now ≤ 32 }
+        ensures { self.new ≡ with_stock self.old (Writing k) (slice_set self.old.counts k count) self.old.service (self.old.unsettled ++ taken.now) }
     {
         self.write(k, count);
-        self.unsettled.append(taken);
+        append(&mut self.unsettled, taken);
     }
 
     // Section `k` is being written with so many free addresses; those left are still in service.
-    pub fn give(&mut self, k: u8, count: u32, left: &Numbers<32>)
-        requires { length (listed left.now) ≤ length (view self.old).service }
-        ensures { view self.new ≡ with_stock (view self.old) (Writing k) (slice_set (view self.old).counts k count) (listed left.now) (view self.old).unsettled }
+    pub fn give(&mut self, k: u8, count: u32, left: ArrayVec<u16, 32>)
+        requires { array_vec_len left ≤ length self.old.service }
+        ensures { self.new ≡ with_stock self.old (Writing k) (slice_set self.old.counts k count) left.items self.old.unsettled }
     {
-        self.service = *left;
+        self.service = left;
         self.write(k, count);
     }
 
     fn write(&mut self, k: u8, count: u32)
-        ensures { view self.new ≡ with_stock (view self.old) (Writing k) (slice_set (view self.old).counts k count) (view self.old).service (view self.old).unsettled }
+        ensures { self.new ≡ with_stock self.old (Writing k) (slice_set self.old.counts k count) self.old.service self.old.unsettled }
     {
         self.chart = MapState::Writing(k);
-        if k >= SECTIONS {
-            return;
+        let k = usize::from(k);
+        // An index, as get_mut of an array leaves a proof nothing of its elements.
+        if k < self.counts.len() {
+            self.counts[k] = count;
         }
-        self.counts[usize::from(k)] = count;
     }
 
     // The section is written: the unsettled addresses join those in service.
     pub fn settle(&mut self)
-        ensures { view self.new ≡ with_stock (view self.old) Idle (view self.old).counts ((view self.old).service ++ (view self.old).unsettled) [] }
+        ensures { self.new ≡ with_stock self.old Idle self.old.counts (self.old.service ++ self.old.unsettled) [] }
     {
-        let unsettled = self.unsettled;
-        self.unsettled = Numbers::new();
-        self.service.append(&unsettled);
+        append(&mut self.service, &self.unsettled);
+        self.unsettled.clear();
         self.chart = MapState::Idle;
     }
 
     // Is the map idle?
     pub fn ask_idle(&self) -> Result<(), Fault>
-        ensures { said result ≡ asked 15 (is_idle (view self.now).chart) }
+        ensures { said result ≡ asked 15 (is_idle self.now.chart) }
     {
-        let MapState::Idle = self.chart else {
+        if !self.is_idle() {
             return Err(Question::Settled.refused());
-        };
+        }
         Ok(())
     }
 
     // Is the map idle, the stock empty, and nothing outstanding?
     pub fn ask_settled(&self, owed: usize) -> Result<(), Fault>
-        ensures { said result ≡ asked 15 (is_idle (view self.now).chart && (length (view self.now).service + length (view self.now).unsettled == 0 && owed == 0)) }
+        ensures { said result ≡ asked 15 (is_idle self.now.chart && (length self.now.service + length self.now.unsettled == 0 && owed == 0)) }
     {
         self.ask_idle()?;
         if self.service.len() + self.unsettled.len() != 0 || owed != 0 {
@@ -109,7 +107,7 @@ impl Memory {
     // The volume is open, under this label and with these counts of free addresses.
     pub fn open(&mut self, label: &Label, counts: [u32; 3])
         requires { label.now.entries ≤ 3968 }
-        ensures { view self.new ≡ opened_as (view self.old) label.now counts }
+        ensures { self.new ≡ opened_as self.old label.now counts }
     {
         self.counts = counts;
         self.id = label.id;
@@ -120,21 +118,21 @@ impl Memory {
 
     // The volume is shut.
     pub fn shut(&mut self)
-        ensures { view self.new ≡ with_phase (view self.old) Shut }
+        ensures { self.new ≡ with_phase self.old Shut }
     {
         self.phase = Phase::Shut;
     }
 
     // The id of the opened volume.
     pub fn id(&self) -> u32
-        ensures { result ≡ (view self.now).id }
+        ensures { result ≡ self.now.id }
     {
         self.id
     }
 
     // The label of the opened volume of so many records, in some state.
     pub fn label(&self, records: u16, state: LabelState) -> Label
-        ensures kept { result ≡ label_kept (view self.now) records state }
+        ensures kept { result ≡ label_kept self.now records state }
         ensures few { result.entries ≤ 3968 }
     {
         Label {
@@ -145,4 +143,12 @@ impl Memory {
             trouble: self.trouble,
         }
     }
+}
+
+// The lowest section that counts a free address.
+fn lowest_counting(counts: &[u32; 3]) -> Option<usize>
+    ensures lowest { result ≡ position (λ n. nat_lt 0 n) counts.now }
+    ensures bound { IfSome result (λ k. k < 3) }
+{
+    counts.iter().position(|count| *count > 0)
 }

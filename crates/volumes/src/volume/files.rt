@@ -10,10 +10,9 @@ use crate::volume::Volume;
 use drive::device::Drive;
 use drive::fault::Fault;
 use memory::entries;
-use model::memory::{File, Slot};
-use posting::asking::ask_page;
+use model::memory::{File, Phase, Slot};
 use posting::entries::{moved_slots, post_entry};
-use reading::work::Work;
+use reading::work::{Work, ask_page};
 use record::entry::Entry;
 
 impl<D: Drive> Volume<D> {
@@ -26,7 +25,7 @@ impl<D: Drive> Volume<D> {
         meter: u32,
         page: &mut [u8],
     ) -> Result<(), Fault>
-        ensures carried { CarriesOut (rules D.Of.Kind.depth D.Of.Kind.life) (call.create (length page.old) file number meter) (volume_of D.meaning self.old) (volume_of D.meaning self.new) (replied done_reply result) }
+        ensures carried { CarriesOut (rules D.Of.DEPTH D.Of.LIFE) (call.create (length page.old) file number meter) (volume_of D.meaning self.old) (volume_of D.meaning self.new) (replied done_reply result) }
         ensures zero { page.new ≡ replicate (length page.old) 0 }
     {
         let work = Work(page);
@@ -40,10 +39,10 @@ impl<D: Drive> Volume<D> {
         meter: u32,
         page: &mut [u8],
     ) -> Result<(), Fault>
-        ensures { CarriesOut (rules D.Of.Kind.depth D.Of.Kind.life) (call.create (length page.old) file number meter) (volume_of D.meaning self.old) (volume_of D.meaning self.new) (replied done_reply result) }
+        ensures { CarriesOut (rules D.Of.DEPTH D.Of.LIFE) (call.create (length page.old) file number meter) (volume_of D.meaning self.old) (volume_of D.meaning self.new) (replied done_reply result) }
     {
-        ask_page(page.len())?;
-        self.memory.ask_open()?;
+        let page = ask_page(page)?;
+        self.memory.ask_phase(Phase::Open)?;
         self.memory.ask_unused(file)?;
         self.memory.ask_number(number)?;
         entries::ask_meter(meter)?;
@@ -71,7 +70,7 @@ impl<D: Drive> Volume<D> {
         number: u16,
         page: &mut [u8],
     ) -> Result<(), Fault>
-        ensures carried { CarriesOut (rules D.Of.Kind.depth D.Of.Kind.life) (call.activate (length page.old) file number) (volume_of D.meaning self.old) (volume_of D.meaning self.new) (replied done_reply result) }
+        ensures carried { CarriesOut (rules D.Of.DEPTH D.Of.LIFE) (call.activate (length page.old) file number) (volume_of D.meaning self.old) (volume_of D.meaning self.new) (replied done_reply result) }
         ensures zero { page.new ≡ replicate (length page.old) 0 }
     {
         let work = Work(page);
@@ -79,10 +78,10 @@ impl<D: Drive> Volume<D> {
     }
 
     fn load_entry(&mut self, file: usize, number: u16, page: &mut [u8]) -> Result<(), Fault>
-        ensures { CarriesOut (rules D.Of.Kind.depth D.Of.Kind.life) (call.activate (length page.old) file number) (volume_of D.meaning self.old) (volume_of D.meaning self.new) (replied done_reply result) }
+        ensures { CarriesOut (rules D.Of.DEPTH D.Of.LIFE) (call.activate (length page.old) file number) (volume_of D.meaning self.old) (volume_of D.meaning self.new) (replied done_reply result) }
     {
-        ask_page(page.len())?;
-        self.memory.ask_open()?;
+        let page = ask_page(page)?;
+        self.memory.ask_phase(Phase::Open)?;
         self.memory.ask_unused(file)?;
         self.memory.ask_number(number)?;
         let shown = self.shown_entry(number, page);
@@ -99,7 +98,7 @@ impl<D: Drive> Volume<D> {
     // Each Nulled page that has settled is Live from now on, each Leaving one has Left; posts the entry with its Live
     // pages. The page comes back zero.
     pub fn update(&mut self, _pass: &WorkingPass, file: usize, page: &mut [u8]) -> Result<(), Fault>
-        ensures carried { CarriesOut (rules D.Of.Kind.depth D.Of.Kind.life) (call.update (length page.old) file) (volume_of D.meaning self.old) (volume_of D.meaning self.new) (replied done_reply result) }
+        ensures carried { CarriesOut (rules D.Of.DEPTH D.Of.LIFE) (call.update (length page.old) file) (volume_of D.meaning self.old) (volume_of D.meaning self.new) (replied done_reply result) }
         ensures zero { page.new ≡ replicate (length page.old) 0 }
     {
         let work = Work(page);
@@ -107,13 +106,13 @@ impl<D: Drive> Volume<D> {
     }
 
     fn update_entry(&mut self, file: usize, page: &mut [u8]) -> Result<(), Fault>
-        ensures { CarriesOut (rules D.Of.Kind.depth D.Of.Kind.life) (call.update (length page.old) file) (volume_of D.meaning self.old) (volume_of D.meaning self.new) (replied done_reply result) }
+        ensures { CarriesOut (rules D.Of.DEPTH D.Of.LIFE) (call.update (length page.old) file) (volume_of D.meaning self.old) (volume_of D.meaning self.new) (replied done_reply result) }
     {
-        ask_page(page.len())?;
-        self.memory.ask_open()?;
+        let page = ask_page(page)?;
+        self.memory.ask_phase(Phase::Open)?;
         let used = self.memory.used_file(file)?;
         self.ask_settled(used.entry)?;
-        let moved = moved_slots(&self.drive, &used.slots);
+        let moved = moved_slots(&self.drive, used.slots);
         let entry = entries::naming_live(used.meter, &moved);
         post_entry(&mut self.drive, self.memory.id(), used.entry, &entry, page)?;
         self.memory.move_slots(file, &moved);
@@ -122,7 +121,7 @@ impl<D: Drive> Volume<D> {
 
     // The file is unused from now on.
     pub fn deactivate(&mut self, _pass: &WorkingPass, file: usize) -> Result<(), Fault>
-        ensures { CarriesOut (rules D.Of.Kind.depth D.Of.Kind.life) (call.deactivate file) (volume_of D.meaning self.old) (volume_of D.meaning self.new) (replied done_reply result) }
+        ensures { CarriesOut (rules D.Of.DEPTH D.Of.LIFE) (call.deactivate file) (volume_of D.meaning self.old) (volume_of D.meaning self.new) (replied done_reply result) }
     {
         self.memory.deactivate(file)
     }

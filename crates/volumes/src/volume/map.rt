@@ -18,14 +18,13 @@ use crate::volume::Volume;
 use drive::device::Drive;
 use drive::fault::Fault;
 use memory::map::{give_back, take_lowest};
+use memory::numbers::{Parted, part};
 use model::answers::{Balanced, Drained};
-use model::memory::MapState;
-use posting::asking::ask_page;
+use model::memory::{MapState, Phase};
 use posting::sections::{ENOUGH, covering, shown_section, wanted};
 use reading::layout::{FIRST_SECTION, SUM_START};
-use reading::work::Work;
-use record::label::LabelState;
-use record::region::Span;
+use reading::work::{Work, ask_page};
+use record::control::RECORD;
 use record::section::Section;
 
 // With fewer addresses in service, more are taken from the map.
@@ -38,51 +37,51 @@ impl<D: Drive> Volume<D> {
     // Takes addresses from the map where few are in service, gives some back where many are, and posts the section. The
     // page comes back zero.
     pub fn balance(&mut self, _pass: &WorkingPass, page: &mut [u8]) -> Result<Balanced, Fault>
-        ensures carried { CarriesOut (rules D.Of.Kind.depth D.Of.Kind.life) (call.balance (length page.old)) (volume_of D.meaning self.old) (volume_of D.meaning self.new) (replied balanced_reply result) }
+        ensures carried { CarriesOut (rules D.Of.DEPTH D.Of.LIFE) (call.balance (length page.old)) (volume_of D.meaning self.old) (volume_of D.meaning self.new) (replied balanced_reply result) }
         ensures zero { page.new ≡ replicate (length page.old) 0 }
     {
         let work = Work(page);
-        ask_page(work.0.len())?;
-        self.memory.ask_open()?;
+        let page = ask_page(&mut *work.0)?;
+        self.memory.ask_phase(Phase::Open)?;
         if !self.memory.is_idle() {
             return Ok(Balanced::Busy);
         }
         let in_service = self.memory.service().len();
         if in_service < FEW {
-            let posted = self.take(&mut *work.0)?;
-            return Ok(balanced(posted));
+            let posted = self.take(page)?;
+            return Ok(posted.map_or(Balanced::Quiet, Balanced::Section));
         }
         if in_service > MANY {
-            let posted = self.give(ENOUGH, &mut *work.0)?;
-            return Ok(balanced(posted));
+            let posted = self.give(ENOUGH, page)?;
+            return Ok(posted.map_or(Balanced::Quiet, Balanced::Section));
         }
         Ok(Balanced::Quiet)
     }
 
     // Gives back every address in service of the oldest one's section, and posts the section. The page comes back zero.
     pub fn drain(&mut self, _pass: &ClosingPass, page: &mut [u8]) -> Result<Drained, Fault>
-        ensures carried { CarriesOut (rules D.Of.Kind.depth D.Of.Kind.life) (call.drain (length page.old)) (volume_of D.meaning self.old) (volume_of D.meaning self.new) (replied drained_reply result) }
+        ensures carried { CarriesOut (rules D.Of.DEPTH D.Of.LIFE) (call.drain (length page.old)) (volume_of D.meaning self.old) (volume_of D.meaning self.new) (replied drained_reply result) }
         ensures zero { page.new ≡ replicate (length page.old) 0 }
     {
         let work = Work(page);
-        ask_page(work.0.len())?;
+        let page = ask_page(&mut *work.0)?;
         self.ask_drain()?;
-        let posted = self.give(0, &mut *work.0)?;
-        Ok(drained(posted))
+        let posted = self.give(0, page)?;
+        Ok(posted.map_or(Drained::Dry, Drained::Section))
     }
 
     // Is the volume closing, and its map idle?
     fn ask_drain(&self) -> Result<(), Fault>
         ensures { said result ≡ and_then (asked 2 (is_closing (volume_of D.meaning self.now).memory.phase)) (asked 15 (is_idle (volume_of D.meaning self.now).memory.chart)) }
     {
-        self.memory.ask_closing()?;
+        self.memory.ask_phase(Phase::Closing)?;
         self.memory.ask_idle()
     }
 
     // Steps the drive; once the section that is being written has settled, the map is idle and the unsettled addresses
     // are in service. Answers how many writes are outstanding.
     pub fn poll(&mut self) -> usize
-        ensures { CarriesOutPoll (rules D.Of.Kind.depth D.Of.Kind.life) (volume_of D.meaning self.old) (volume_of D.meaning self.new) result }
+        ensures { CarriesOutPoll (rules D.Of.DEPTH D.Of.LIFE) (volume_of D.meaning self.old) (volume_of D.meaning self.new) result }
     {
         self.advance()
     }
@@ -113,17 +112,15 @@ impl<D: Drive> Volume<D> {
 
     // Takes the lowest free addresses of the lowest section that counts one, while the map is idle and few are in
     // service; answers the section.
-    fn take(&mut self, page: &mut [u8]) -> Result<Option<u8>, Fault>
-        requires paged { length page.old ≡ 512 }
+    fn take(&mut self, page: &mut [u8; RECORD]) -> Result<Option<u8>, Fault>
         requires few { length (volume_of D.meaning self.old).memory.service ≤ 7 }
         requires settled { (volume_of D.meaning self.old).memory.unsettled ≡ [] }
-        ensures { ComesTo (take_from (rules D.Of.Kind.depth D.Of.Kind.life) (D.meaning self.old.drive) (volume_of D.meaning self.old).memory (counting_free 0 (volume_of D.meaning self.old).memory.counts)) (volume_of D.meaning self.old) (volume_of D.meaning self.new) (replied (section_or quiet) result) }
+        ensures { ComesTo (take_from (rules D.Of.DEPTH D.Of.LIFE) (D.meaning self.old.drive) (volume_of D.meaning self.old).memory (counting_free 0 (volume_of D.meaning self.old).memory.counts)) (volume_of D.meaning self.old) (volume_of D.meaning self.new) (replied (section_or quiet) result) }
     {
         let Some(k) = self.memory.section_with_free() else {
             return Ok(None);
         };
-        let label = self.label(LabelState::InUse);
-        let mut section = shown_section(&self.drive, &label, k, page);
+        let mut section = shown_section(&self.records(), k, page);
         let most = wanted(self.memory.service().len());
         let taken = take_lowest::<32>(&mut section, k, most);
         self.post_section(k, &section, page)?;
@@ -133,54 +130,37 @@ impl<D: Drive> Volume<D> {
 
     // Gives back addresses of the oldest one's section, oldest first, until `left` are in service or that section has no
     // more there; answers the section, or none where nothing is in service.
-    fn give(&mut self, left: usize, page: &mut [u8]) -> Result<Option<u8>, Fault>
-        requires paged { length page.old ≡ 512 }
-        ensures { (reply : Reply) → ComesTo (give_oldest (rules D.Of.Kind.depth D.Of.Kind.life) (D.meaning self.old.drive) (volume_of D.meaning self.old).memory left reply (oldest (volume_of D.meaning self.old).memory.service)) (volume_of D.meaning self.old) (volume_of D.meaning self.new) (replied (section_or reply) result) }
+    fn give(&mut self, left: usize, page: &mut [u8; RECORD]) -> Result<Option<u8>, Fault>
+        ensures { (reply : Reply) → ComesTo (give_oldest (rules D.Of.DEPTH D.Of.LIFE) (D.meaning self.old.drive) (volume_of D.meaning self.old).memory left reply (oldest (volume_of D.meaning self.old).memory.service)) (volume_of D.meaning self.old) (volume_of D.meaning self.new) (replied (section_or reply) result) }
     {
-        let mut service = self.memory.service();
-        let Some(oldest) = service.oldest() else {
+        let Some(oldest) = self.memory.service().first().copied() else {
             return Ok(None);
         };
         let k = covering(oldest);
-        let label = self.label(LabelState::InUse);
-        let mut section = shown_section(&self.drive, &label, k, page);
+        let mut section = shown_section(&self.records(), k, page);
+        let service = self.memory.service();
         let most = service.len().saturating_sub(left);
-        let given = service.take_section(k, most);
+        let Parted { given, staying } = part(service, k, most);
         give_back(&mut section, k, &given);
         self.post_section(k, &section, page)?;
-        self.memory.give(k, section.count(), &service);
+        self.memory.give(k, section.count(), staying);
         Ok(Some(k))
     }
 
     // Posts section `k` of the map.
-    fn post_section(&mut self, k: u8, section: &Section, page: &mut [u8]) -> Result<(), Fault>
-        requires paged { length page.old ≡ 512 }
-        requires covered { k ≤ 16 }
-        ensures answer { said result ≡ post_answer D.Of.Kind.depth D.Of.Kind.life (D.meaning self.old.drive) (1 + k) (length (section_bytes (volume_of D.meaning self.old).memory.id (volume_of D.meaning self.old).memory.entries (size (D.meaning self.old.drive)) k section.now.bits)) }
+    fn post_section(
+        &mut self,
+        k: u8,
+        section: &Section,
+        page: &mut [u8; RECORD],
+    ) -> Result<(), Fault>
+        requires { k ≤ 16 }
+        ensures answer { said result ≡ post_answer D.Of.DEPTH D.Of.LIFE (D.meaning self.old.drive) (1 + k) (length (section_bytes (volume_of D.meaning self.old).memory.id (volume_of D.meaning self.old).memory.entries (size (D.meaning self.old.drive)) k section.now.bits)) }
         ensures after { PostLeaves result (D.meaning self.old.drive) (1 + k) (section_bytes (volume_of D.meaning self.old).memory.id (volume_of D.meaning self.old).memory.entries (size (D.meaning self.old.drive)) k section.now.bits) (D.meaning self.new.drive) }
         ensures same { self.new.memory ≡ self.old.memory }
     {
-        let label = self.label(LabelState::InUse);
-        let span = Span::of_map(k, label.entries, label.records);
-        section.encode(SUM_START, label.id, &span, page);
+        let records = self.records();
+        section.encode(SUM_START, records.label.id, &records.span(k), page);
         self.drive.post(FIRST_SECTION + u16::from(k), page)
-    }
-}
-
-fn balanced(posted: Option<u8>) -> Balanced
-    ensures { balanced_reply result ≡ section_or quiet posted }
-{
-    match posted {
-        Some(k) => Balanced::Section(k),
-        None => Balanced::Quiet,
-    }
-}
-
-fn drained(posted: Option<u8>) -> Drained
-    ensures { drained_reply result ≡ section_or dry posted }
-{
-    match posted {
-        Some(k) => Drained::Section(k),
-        None => Drained::Dry,
     }
 }

@@ -10,17 +10,18 @@ use crate::volume::Volume;
 use drive::device::Drive;
 use drive::fault::Fault;
 use memory::state::Memory;
-use posting::asking::ask_page;
-use posting::labels::{ask_believed, ask_may_open, in_use};
+use model::memory::Phase;
+use posting::labels::{ask_may_open, in_use};
 use posting::sections::count_map;
 use reading::layout::{LABEL, SUM_START};
-use reading::work::Work;
+use reading::shown::Records;
+use reading::work::{Work, ask_page};
 use record::label::LabelState;
 
 impl<D: Drive> Volume<D> {
     // A volume on the drive: the phase is shut, the map idle, and nothing is held.
     pub fn attach(drive: D) -> Volume<D>
-        ensures { CarriesOutAttach (rules D.Of.Kind.depth D.Of.Kind.life) (D.meaning drive) (volume_of D.meaning result) }
+        ensures { CarriesOutAttach (rules D.Of.DEPTH D.Of.LIFE) (D.meaning drive) (volume_of D.meaning result) }
     {
         Volume {
             drive,
@@ -46,7 +47,7 @@ impl<D: Drive> Volume<D> {
     // Counts the map's free addresses and posts the label as in use; the phase is open from now on, and the caller may
     // work. The page comes back zero.
     pub fn open(&mut self, page: &mut [u8]) -> Result<WorkingPass, Fault>
-        ensures carried { CarriesOut (rules D.Of.Kind.depth D.Of.Kind.life) (call.open' (length page.old)) (volume_of D.meaning self.old) (volume_of D.meaning self.new) (replied (λ _. done) result) }
+        ensures carried { CarriesOut (rules D.Of.DEPTH D.Of.LIFE) (call.open' (length page.old)) (volume_of D.meaning self.old) (volume_of D.meaning self.new) (replied (λ _. done) result) }
         ensures zero { page.new ≡ replicate (length page.old) 0 }
     {
         let work = Work(page);
@@ -54,14 +55,14 @@ impl<D: Drive> Volume<D> {
     }
 
     fn post_in_use(&mut self, page: &mut [u8]) -> Result<WorkingPass, Fault>
-        ensures { CarriesOut (rules D.Of.Kind.depth D.Of.Kind.life) (call.open' (length page.old)) (volume_of D.meaning self.old) (volume_of D.meaning self.new) (replied (λ _. done) result) }
+        ensures { CarriesOut (rules D.Of.DEPTH D.Of.LIFE) (call.open' (length page.old)) (volume_of D.meaning self.old) (volume_of D.meaning self.new) (replied (λ _. done) result) }
     {
-        ask_page(page.len())?;
-        self.memory.ask_shut()?;
-        let label = ask_believed(&self.drive, page)?;
-        ask_may_open(label.state)?;
-        let counts = count_map(&self.drive, &label, page);
-        let opened = in_use(&label);
+        let page = ask_page(page)?;
+        self.memory.ask_phase(Phase::Shut)?;
+        let records = Records::believed(&self.drive, page)?;
+        ask_may_open(records.label.state)?;
+        let counts = count_map(&records, page);
+        let opened = in_use(&records.label);
         opened.encode(SUM_START, page);
         self.drive.post(LABEL, page)?;
         self.memory.open(&opened, counts);
@@ -70,7 +71,7 @@ impl<D: Drive> Volume<D> {
 
     // Changes the working pass for a closing pass; the phase is closing from now on. A refusal hands the pass back.
     pub fn close(&mut self, pass: WorkingPass) -> Result<ClosingPass, (WorkingPass, Fault)>
-        ensures carried { CarriesOut (rules D.Of.Kind.depth D.Of.Kind.life) call.close (volume_of D.meaning self.old) (volume_of D.meaning self.new) (replied_with (λ _. done) result) }
+        ensures carried { CarriesOut (rules D.Of.DEPTH D.Of.LIFE) call.close (volume_of D.meaning self.old) (volume_of D.meaning self.new) (replied_with (λ _. done) result) }
         ensures back { HandsBack result pass }
     {
         match self.memory.close() {
@@ -84,7 +85,7 @@ impl<D: Drive> Volume<D> {
 
     // Posts the label as closed; the phase is shut from now on. A refusal hands the pass back. The page comes back zero.
     pub fn finish(&mut self, pass: ClosingPass, page: &mut [u8]) -> Result<(), (ClosingPass, Fault)>
-        ensures carried { CarriesOut (rules D.Of.Kind.depth D.Of.Kind.life) (call.finish (length page.old)) (volume_of D.meaning self.old) (volume_of D.meaning self.new) (replied_with (λ _. done) result) }
+        ensures carried { CarriesOut (rules D.Of.DEPTH D.Of.LIFE) (call.finish (length page.old)) (volume_of D.meaning self.old) (volume_of D.meaning self.new) (replied_with (λ _. done) result) }
         ensures back { HandsBack result pass }
         ensures zero { page.new ≡ replicate (length page.old) 0 }
     {
@@ -99,10 +100,10 @@ impl<D: Drive> Volume<D> {
     }
 
     fn post_closed(&mut self, page: &mut [u8]) -> Result<(), Fault>
-        ensures { CarriesOut (rules D.Of.Kind.depth D.Of.Kind.life) (call.finish (length page.old)) (volume_of D.meaning self.old) (volume_of D.meaning self.new) (replied (λ _. done) result) }
+        ensures { CarriesOut (rules D.Of.DEPTH D.Of.LIFE) (call.finish (length page.old)) (volume_of D.meaning self.old) (volume_of D.meaning self.new) (replied (λ _. done) result) }
     {
-        ask_page(page.len())?;
-        self.memory.ask_closing()?;
+        let page = ask_page(page)?;
+        self.memory.ask_phase(Phase::Closing)?;
         self.memory.ask_settled(self.drive.owed())?;
         self.label(LabelState::Closed).encode(SUM_START, page);
         self.drive.post(LABEL, page)?;

@@ -1,7 +1,8 @@
 // The calls on the slots of a file.
-ghost use Rattle.std.specs.Prelude.{◌≡◌, length, replicate, OnErr};
+ghost use Rattle.std.specs.Prelude.{◌≡◌, length, replicate, OnErr, ◌==◌};
 ghost use Rattle.model.specs.Calls as call;
-ghost use Rattle.model.specs.Carried.{CarriesOut, ComesTo, HandsBack, replied, replied_with};
+ghost use Rattle.drive.specs.Faults.{said};
+ghost use Rattle.model.specs.Carried.{asked, CarriesOut, ComesTo, HandsBack, replied, replied_with};
 ghost use Rattle.model.specs.Outcomes.{page as page_reply};
 ghost use Rattle.model.specs.Plans.{read_plan};
 ghost use Rattle.model.specs.Replies.{done_reply};
@@ -10,10 +11,11 @@ ghost use Rattle.volumes.specs.Volumes.{volume_of, rules};
 use crate::tokens::{Grant, WorkingPass};
 use crate::volume::Volume;
 use drive::device::Drive;
-use drive::fault::Fault;
+use drive::fault::{Fault, Question};
 use memory::entries;
-use posting::asking::ask_page;
+use model::memory::Phase;
 use reading::work::Work;
+use record::control::RECORD;
 
 impl<D: Drive> Volume<D> {
     // Posts the page at the grant's address for an Empty slot, which is Nulled from now on, and spends the grant. A
@@ -26,7 +28,7 @@ impl<D: Drive> Volume<D> {
         slot: usize,
         page: &mut [u8],
     ) -> Result<(), (Grant, Fault)>
-        ensures carried { CarriesOut (rules D.Of.Kind.depth D.Of.Kind.life) (call.place page.old file slot grant.ticket grant.address) (volume_of D.meaning self.old) (volume_of D.meaning self.new) (replied_with done_reply result) }
+        ensures carried { CarriesOut (rules D.Of.DEPTH D.Of.LIFE) (call.place page.old file slot grant.ticket grant.address) (volume_of D.meaning self.old) (volume_of D.meaning self.new) (replied_with done_reply result) }
         ensures back { HandsBack result grant }
         ensures zero { page.new ≡ replicate (length page.old) 0 }
     {
@@ -51,10 +53,10 @@ impl<D: Drive> Volume<D> {
         slot: usize,
         page: &[u8],
     ) -> Result<(), Fault>
-        ensures { CarriesOut (rules D.Of.Kind.depth D.Of.Kind.life) (call.place page.now file slot ticket address) (volume_of D.meaning self.old) (volume_of D.meaning self.new) (replied done_reply result) }
+        ensures { CarriesOut (rules D.Of.DEPTH D.Of.LIFE) (call.place page.now file slot ticket address) (volume_of D.meaning self.old) (volume_of D.meaning self.new) (replied done_reply result) }
     {
-        ask_page(page.len())?;
-        self.memory.ask_open()?;
+        ask_record(page)?;
+        self.memory.ask_phase(Phase::Open)?;
         let used = self.memory.used_file(file)?;
         entries::ask_empty(&used, slot)?;
         self.memory.ask_ticket(ticket, address)?;
@@ -71,7 +73,7 @@ impl<D: Drive> Volume<D> {
         slot: usize,
         page: &mut [u8],
     ) -> Result<(), Fault>
-        ensures carried { CarriesOut (rules D.Of.Kind.depth D.Of.Kind.life) (call.read (length page.old) file slot) (volume_of D.meaning self.old) (volume_of D.meaning self.new) (replied (λ _. page_reply page.new) result) }
+        ensures carried { CarriesOut (rules D.Of.DEPTH D.Of.LIFE) (call.read (length page.old) file slot) (volume_of D.meaning self.old) (volume_of D.meaning self.new) (replied (λ _. page_reply page.new) result) }
         ensures zero { OnErr result (page.new ≡ replicate (length page.old) 0) }
     {
         match self.read_page(file, slot, page) {
@@ -86,8 +88,8 @@ impl<D: Drive> Volume<D> {
     fn read_page(&self, file: usize, slot: usize, page: &mut [u8]) -> Result<(), Fault>
         ensures { ComesTo (read_plan (length page.old) file slot (D.meaning self.now.drive) (volume_of D.meaning self.now).memory) (volume_of D.meaning self.now) (volume_of D.meaning self.now) (replied (λ _. page_reply page.new) result) }
     {
-        ask_page(page.len())?;
-        self.memory.ask_open()?;
+        ask_record(page)?;
+        self.memory.ask_phase(Phase::Open)?;
         let used = self.memory.used_file(file)?;
         let address = entries::page_of(&used, slot)?;
         self.drive.read(address, page)?;
@@ -96,16 +98,16 @@ impl<D: Drive> Volume<D> {
 
     // A Live page is Leaving from now on, a Nulled one has Left.
     pub fn clear(&mut self, _pass: &WorkingPass, file: usize, slot: usize) -> Result<(), Fault>
-        ensures { CarriesOut (rules D.Of.Kind.depth D.Of.Kind.life) (call.clear file slot) (volume_of D.meaning self.old) (volume_of D.meaning self.new) (replied done_reply result) }
+        ensures { CarriesOut (rules D.Of.DEPTH D.Of.LIFE) (call.clear file slot) (volume_of D.meaning self.old) (volume_of D.meaning self.new) (replied done_reply result) }
     {
         self.memory.clear(file, slot)
     }
 
     // The address that a slot has left goes to the end of those in service; the slot is Empty from now on.
     pub fn reclaim(&mut self, _pass: &WorkingPass, file: usize, slot: usize) -> Result<(), Fault>
-        ensures { CarriesOut (rules D.Of.Kind.depth D.Of.Kind.life) (call.reclaim file slot) (volume_of D.meaning self.old) (volume_of D.meaning self.new) (replied done_reply result) }
+        ensures { CarriesOut (rules D.Of.DEPTH D.Of.LIFE) (call.reclaim file slot) (volume_of D.meaning self.old) (volume_of D.meaning self.new) (replied done_reply result) }
     {
-        self.memory.ask_open()?;
+        self.memory.ask_phase(Phase::Open)?;
         let used = self.memory.used_file(file)?;
         let address = entries::left_address(&used, slot)?;
         self.memory.ask_room()?;
@@ -113,4 +115,14 @@ impl<D: Drive> Volume<D> {
         self.memory.reclaim(file, slot, address);
         Ok(())
     }
+}
+
+// Is the page 512 bytes?
+fn ask_record(page: &[u8]) -> Result<(), Fault>
+    ensures { said result ≡ asked 1 (length page.now == 512) }
+{
+    if page.len() != RECORD {
+        return Err(Question::PageLength.refused());
+    }
+    Ok(())
 }

@@ -16,7 +16,7 @@ impl<D: Drive> Volume<D> {
     // Moves the oldest address in service to the lowest unused ticket and grants it; or says that there is none yet, or
     // none at all.
     pub fn withdraw(&mut self, _pass: &WorkingPass) -> Result<Withdrawn<Grant>, Fault>
-        ensures { CarriesOut (rules D.Of.Kind.depth D.Of.Kind.life) call.withdraw (volume_of D.meaning self.old) (volume_of D.meaning self.new) (replied (withdrawn_reply (λ h. h.ticket) (λ h. h.address)) result) }
+        ensures { CarriesOut (rules D.Of.DEPTH D.Of.LIFE) call.withdraw (volume_of D.meaning self.old) (volume_of D.meaning self.new) (replied (withdrawn_reply (λ h. h.ticket) (λ h. h.address)) result) }
     {
         let moved = self.memory.withdraw()?;
         Ok(granted(moved))
@@ -24,7 +24,7 @@ impl<D: Drive> Volume<D> {
 
     // Spends the grant; its address goes to the end of those in service.
     pub fn deposit(&mut self, grant: Grant) -> Result<(), Fault>
-        ensures { CarriesOut (rules D.Of.Kind.depth D.Of.Kind.life) (call.deposit grant.ticket grant.address) (volume_of D.meaning self.old) (volume_of D.meaning self.new) (replied done_reply result) }
+        ensures { CarriesOut (rules D.Of.DEPTH D.Of.LIFE) (call.deposit grant.ticket grant.address) (volume_of D.meaning self.old) (volume_of D.meaning self.new) (replied done_reply result) }
     {
         let Grant { ticket, address } = grant;
         self.memory.deposit(ticket, address)

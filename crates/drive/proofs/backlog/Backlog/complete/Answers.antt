@@ -1,19 +1,27 @@
-use Rattle.std.proofs.Common.{◌≡◌, ap, ◌∙◌, arith}
-use Rattle.drive.specs.Backlogs.{held}
-use Rattle.drive.specs.Meaning.{complete}
-use Rattle.drive.proofs.MeaningLaws.{completing_in_turns}
+use Rattle.std.proofs.Common.{◌≡◌, min, length, take, ap, ◌∙◌, lit<, arith}
+use Rattle.drive.specs.Disks.{disk}
+use Rattle.drive.specs.Queues.{line}
+use Rattle.drive.proofs.BacklogLaws.{below_item, below_rest, completed}
+use Rattle.drive.proofs.MeaningLaws.{length_settle}
 use Rattle.drive.proofs.backlog.Backlog.complete.Goals as goal
 
-pub loop-preserved : goal.loop-preserved
-loop-preserved c =
-    let one = c.complete_oldest.ensures in
-    let so_far = c.loop.invariant in (
-      λ w. one.settled w ∙ ap (complete 1) (so_far.0 w) ∙ completing_in_turns (held c.args.self.now w) 1 c.loop.counter,
-      one.kept,
-      (one.lent.0 ∙ so_far.2.0, one.lent.1 ∙ so_far.2.1),
-    )
+pub settle-requires : goal.settle-requires
+settle-requires c =
+    let b = c.args.self.now in
+    let size = ap length c.loop-write.invariant.settled ∙ length_settle (line (take c.loop-write.write-index b.queue.items)) (disk b.surface) in
+    let within = below_item (length (disk b.surface)) c.min-count.result c.loop-write.write-index b.queue.items _ c.write-item.result (ap (take c.min-count.result) c.deref.ensures.0) c.loop-write-test.true c.write-item.is b.inside in
+    omega (arith, size, within)
 
-pub returns : goal.returns
-returns c =
-    let all : c.loop.counter ≡ c.args.count = omega arith in
-    record { settled = λ w. c.loop.invariant.0 w ∙ ap (λ k. complete k (held c.args.self.now w)) all; kept = c.loop.invariant.1; lent = c.loop.invariant.2 }
+pub invariant_of-self-2 : goal.invariant_of-self-2
+invariant_of-self-2 c =
+    let b = c.args.self.now in
+    let size = ap length c.loop-write.invariant.settled ∙ length_settle (line (take c.loop-write.write-index b.queue.items)) (disk b.surface) in
+    record { inside = below_rest (length (disk b.surface)) _ c.min-count.result b.queue.items _ (c.drop-drain.ensures (lit< tt) ∙ c.drain.ensures.kept) size b.inside }
+
+pub returns-clause-settled : goal.returns-clause-settled
+returns-clause-settled c =
+    let b = c.args.self.now in
+    let few : c.min-count.result ≡ min c.args.count (length b.queue.items) = c.min-count.ensures ∙ ap (min c.args.count) c.len.ensures.value in
+    let all : c.loop-write.write-index ≡ length (take c.min-count.result c.deref.result.now) = omega arith in
+    let rest = c.drop-drain.ensures (lit< tt) ∙ c.drain.ensures.kept in
+    completed (disk b.surface) _ b.queue.items _ _ c.args.count c.min-count.result c.loop-write.write-index few (ap (take c.min-count.result) c.deref.ensures.0) all c.loop-write.invariant.settled rest

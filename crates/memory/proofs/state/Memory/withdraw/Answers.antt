@@ -1,57 +1,11 @@
-use Rattle.std.proofs.Common.{length, sym, refl, ap, ◌∙◌, arith}
-use Rattle.std.proofs.lemmas.Result.{err_from_is_err_and}
-use Rattle.model.specs.Memory.{with_service}
-use Rattle.model.specs.Outcomes.{keep, refuse, granted}
-use Rattle.model.specs.Plans.{withdraw_plan}
-use Rattle.drive.specs.Faults.{told}
-use Rattle.model.proofs.CarriedLaws.{asked_yes, asked_no, found_some, found_none}
-use Rattle.memory.specs.Numbers.{listed}
-use Rattle.memory.specs.View.{view}
-use Rattle.memory.proofs.StateLaws.{lowest_is, withdrawing_some, withdrawing_none}
+use Rattle.std.proofs.Common.{Some, ◌∙◌, arith}
+use Rattle.std.proofs.lemmas.List.{length-set}
+use Rattle.memory.proofs.StateLaws.{used_one_more}
 use Rattle.memory.proofs.state.Memory.withdraw.Goals as goal
 
-pub returns-in_err-ask_open : goal.returns-in_err-ask_open
-unfolding withdraw_plan
-returns-in_err-ask_open c =
-    let p = err_from_is_err_and c.from_residual.result c.from_residual.ensures.1 in
-    rw (p.1, p.2) (record { planned = asked_no _ _ _ _ c.in_err-ask_open.ensures; same = refl })
-
-pub returns-in_default : goal.returns-in_default
-unfolding withdraw_plan
-returns-in_default c =
-    record {
-      planned = asked_yes _ _ _ c.in_ok-ask_open.ensures ∙ (found_none _ _ _ c.in_default.ensures ∙ ap (λ f. refuse (told f)) (sym c.refused.ensures));
-      same = refl;
-    }
-
-pub returns-in_default-pop_oldest : goal.returns-in_default-pop_oldest
-unfolding withdraw_plan
-returns-in_default-pop_oldest c =
-    let v = view c.args.self.now in
-    let popped = c.in_default-pop_oldest.ensures.taken in
-    record {
-      planned =
-          asked_yes _ _ _ c.in_ok-ask_open.ensures ∙ (found_some _ _ _ _ c.in-Some.ensures
-          ∙ (withdrawing_none v c.in-Some.ticket (listed c.pop_oldest.new.self) popped.0 popped.1
-          ∙ ap (λ r. keep r (with_service v (listed c.pop_oldest.new.self))) (sym c.shortage.ensures)));
-      same = tt;
-    }
-
-pub fill_ticket-requires : goal.fill_ticket-requires
-fill_ticket-requires c =
-    let v = c.args.self.now in
-    let h = lowest_is v.tickets c.in-Some.ticket c.in-Some.ensures in
-    let n = ap length c.in-Some-pop_oldest.ensures.taken in
-    record { ticketed = omega (arith, h.0, v.four); room = omega (arith, n, v.few) }
-
-pub returns : goal.returns
-unfolding withdraw_plan
-returns c =
-    let v = view c.args.self.now in
-    record {
-      planned =
-          asked_yes _ _ _ c.in_ok-ask_open.ensures ∙ (found_some _ _ _ _ c.in-Some.ensures
-          ∙ (withdrawing_some v c.in-Some.ticket c.in-Some-pop_oldest.address (listed c.pop_oldest.new.self) c.in-Some-pop_oldest.ensures.taken
-          ∙ ap (keep (granted c.in-Some.ticket c.in-Some-pop_oldest.address)) (sym c.fill_ticket.ensures)));
-      same = tt;
-    }
+pub invariant_of-self-2 : goal.invariant_of-self-2
+invariant_of-self-2 c =
+    let m = c.self.inside in
+    let i = c.self.invariant in
+    let u = used_one_more m.tickets c.in-Some.ticket (Some c.in-Some-pop_at.address) in
+    record { few = omega (arith, c.in-Some-pop_at.ensures.len, u, i.few); three = i.three; four = length-set m.tickets c.in-Some.ticket _ ∙ i.four; eight = i.eight; settled = i.settled; limited = i.limited; numbered = i.numbered }

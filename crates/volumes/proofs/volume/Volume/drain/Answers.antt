@@ -1,43 +1,43 @@
-use Rattle.std.proofs.Common.{◌≡◌, length, replicate, Ok, refl, ap, ◌∙◌, arith}
+use Rattle.std.proofs.Common.{Ok, refl, ap, ◌∙◌, rules}
 use Rattle.std.proofs.lemmas.Result.{err_from_is_err_and}
 use Rattle.model.specs.Calls.{plan}
 use Rattle.model.specs.Outcomes.{dry}
+use Rattle.model.specs.Replies.{drained_reply}
+use Rattle.model.specs.declared.answers.Drained.TheVariants.{Section, Dry}
 use Rattle.model.specs.Plans.{drain_plan}
 use Rattle.model.proofs.CarriedLaws.{asked_yes, asked_no, carried, refusing}
-use Rattle.volumes.proofs.Mapping.{both_yes, one_no, at_plan}
+use Rattle.volumes.proofs.Mapping.{section_reply, both_yes, one_no, at_plan}
 use Rattle.volumes.proofs.volume.Volume.drain.Goals as goal
 
-pub returns-in_err-ask_page : goal.returns-in_err-ask_page
+pub returns-in_err-page : goal.returns-in_err-page
 unfolding plan drain_plan
-returns-in_err-ask_page g c =
+returns-in_err-page g c =
     let p = err_from_is_err_and c.from_residual.result c.from_residual.ensures.1 in
-    rw (p.1, p.2) (record { carried = carried _ _ _ _ _ tt (refusing _ _ _ _ _ (asked_no _ _ _ _ c.in_err-ask_page.ensures) refl refl); zero = c.drop-work.ensures })
+    rw (p.1, p.2) (record { carried = carried _ _ _ _ _ tt (refusing _ _ _ _ _ (asked_no _ _ _ _ c.in_err-page.ensures) refl refl); zero = search rules })
 
 pub returns-in_err-ask_drain : goal.returns-in_err-ask_drain
 unfolding plan drain_plan
 returns-in_err-ask_drain g c =
     let p = err_from_is_err_and c.from_residual-in_err-ask_drain.result c.from_residual-in_err-ask_drain.ensures.1 in
-    let no' = asked_yes _ _ _ c.in_ok-ask_page.ensures ∙ one_no _ _ _ _ _ _ c.in_err-ask_drain.ensures in
-    rw (p.1, p.2) (record { carried = carried _ _ _ _ _ tt (refusing _ _ _ _ _ no' refl refl); zero = c.drop-work-in_err-ask_drain.ensures })
+    let no' = asked_yes _ _ _ c.in_ok-page.ensures ∙ one_no _ _ _ _ _ _ c.in_err-ask_drain.ensures in
+    rw (p.1, p.2) (record { carried = carried _ _ _ _ _ tt (refusing _ _ _ _ _ no' refl refl); zero = search rules })
 
 pub returns-in_err-posted : goal.returns-in_err-posted
 unfolding plan drain_plan
 returns-in_err-posted g c =
     let p = err_from_is_err_and c.from_residual-in_err-posted.result c.from_residual-in_err-posted.ensures.1 in
-    let gives = asked_yes _ _ _ c.in_ok-ask_page.ensures ∙ both_yes _ _ _ _ _ c.in_ok-ask_drain.ensures in
-    let long : length c.give.new.page ≡ length c.args.page.now = omega arith in
+    let gives = asked_yes _ _ _ c.in_ok-page.ensures ∙ both_yes _ _ _ _ _ c.in_ok-ask_drain.ensures in
     rw (p.1, p.2)
     (record {
       carried = carried _ _ _ _ _ tt (at_plan _ _ _ _ _ _ gives refl (c.in_err-posted.ensures dry));
-      zero = c.drop-work-in_err-posted.ensures ∙ ap (λ n. replicate n 0) long;
+      zero = search rules;
     })
 
 pub returns : goal.returns
 unfolding plan drain_plan
 returns g c =
-    let gives = asked_yes _ _ _ c.in_ok-ask_page.ensures ∙ both_yes _ _ _ _ _ c.in_ok-ask_drain.ensures in
-    let long : length c.give.new.page ≡ length c.args.page.now = omega arith in
+    let gives = asked_yes _ _ _ c.in_ok-page.ensures ∙ both_yes _ _ _ _ _ c.in_ok-ask_drain.ensures in
     record {
-      carried = carried _ _ _ _ _ tt (at_plan _ _ _ _ _ _ gives (ap Ok c.drained.ensures) (c.in_ok-posted.ensures dry));
-      zero = c.drop-work-2.ensures ∙ ap (λ n. replicate n 0) long;
+      carried = carried _ _ _ _ _ tt (at_plan _ _ _ _ _ _ gives (ap Ok (section_reply drained_reply Dry Section dry _ _ c.map_or.ensures refl (λ k. refl))) (c.in_ok-posted.ensures dry));
+      zero = search rules;
     }

@@ -1,63 +1,54 @@
-use Rattle.std.proofs.Common.{length, refl, ap, ◌∙◌, arith}
+use Rattle.std.proofs.Common.{[], ◌∷◌, map, refl, ap, ◌∙◌, arith}
 use Rattle.std.proofs.lemmas.Result.{err_from_is_err_and}
-use Rattle.memory.specs.View.{view, opened_as}
+use Rattle.memory.specs.View.{opened_as}
 use Rattle.model.specs.Calls.{plan, Volume}
 use Rattle.model.specs.Plans.{open_plan, next_trouble}
-use Rattle.model.specs.Shown.{with_state}
+use Rattle.model.specs.Shown.{with_state, bits_shown}
+use Rattle.record.specs.Sections.{free_count}
 use Rattle.record.specs.declared.label.Label.{Label}
 use Rattle.record.specs.declared.label.LabelState.TheVariants.{InUse}
 use Rattle.model.specs.Volume.{label_bytes}
-use Rattle.model.proofs.CarriedLaws.{asked_yes, asked_no, needed_some, needed_none, some_of, carried, refusing, posting_page, post_refused_page}
-use Rattle.reading.proofs.BelievedLaws.{label_sized, few_entries}
-use Rattle.volumes.proofs.Carrying.{page_long}
+use Rattle.model.proofs.CarriedLaws.{asked_yes, asked_no, needed_some, needed_none, carried, refusing, posting_page, post_refused_page}
 use Rattle.volumes.proofs.volume.Volume.post_in_use.Goals as goal
 
-pub returns-in_err-ask_page : goal.returns-in_err-ask_page
+pub returns-in_err-page : goal.returns-in_err-page
 unfolding plan open_plan
-returns-in_err-ask_page g c =
+returns-in_err-page g c =
     let p = err_from_is_err_and c.from_residual.result c.from_residual.ensures.1 in
-    rw (p.1, p.2) (carried _ _ _ _ _ tt (refusing _ _ _ _ _ (asked_no _ _ _ _ c.in_err-ask_page.ensures) refl refl))
+    rw (p.1, p.2) (carried _ _ _ _ _ tt (refusing _ _ _ _ _ (asked_no _ _ _ _ c.in_err-page.ensures) refl refl))
 
-pub returns-in_err-ask_shut : goal.returns-in_err-ask_shut
+pub returns-in_err-ask_phase : goal.returns-in_err-ask_phase
 unfolding plan open_plan
-returns-in_err-ask_shut g c =
-    let p = err_from_is_err_and c.from_residual-in_err-ask_shut.result c.from_residual-in_err-ask_shut.ensures.1 in
-    rw (p.1, p.2) (carried _ _ _ _ _ tt (refusing _ _ _ _ _ (asked_yes _ _ _ c.in_ok-ask_page.ensures ∙ asked_no _ _ _ _ c.in_err-ask_shut.ensures) refl refl))
+returns-in_err-ask_phase g c =
+    let p = err_from_is_err_and c.from_residual-in_err-ask_phase.result c.from_residual-in_err-ask_phase.ensures.1 in
+    rw (p.1, p.2) (carried _ _ _ _ _ tt (refusing _ _ _ _ _ (asked_yes _ _ _ c.in_ok-page.ensures ∙ asked_no _ _ _ _ c.in_err-ask_phase.ensures) refl refl))
 
-pub returns-in_err-label : goal.returns-in_err-label
+pub returns-in_err-records : goal.returns-in_err-records
 unfolding plan open_plan
-returns-in_err-label g c =
-    let p = err_from_is_err_and c.from_residual-in_err-label.result c.from_residual-in_err-label.ensures.1 in
+returns-in_err-records g c =
+    let p = err_from_is_err_and c.from_residual-in_err-records.result c.from_residual-in_err-records.ensures.1 in
     rw (p.1, p.2) (carried _ _ _ _ _ tt (refusing _ _ _ _ _
-    (asked_yes _ _ _ c.in_ok-ask_page.ensures ∙ (asked_yes _ _ _ c.in_ok-ask_shut.ensures ∙ needed_none _ _ _ _ c.in_err-label.ensures)) refl refl))
+    (asked_yes _ _ _ c.in_ok-page.ensures ∙ (asked_yes _ _ _ c.in_ok-ask_phase.ensures ∙ needed_none _ _ _ _ c.in_err-records.ensures.label)) refl refl))
 
 pub returns-in_err-ask_may_open : goal.returns-in_err-ask_may_open
 unfolding plan open_plan
 returns-in_err-ask_may_open g c =
     let p = err_from_is_err_and c.from_residual-in_err-ask_may_open.result c.from_residual-in_err-ask_may_open.ensures.1 in
     rw (p.1, p.2) (carried _ _ _ _ _ tt (refusing _ _ _ _ _
-    (asked_yes _ _ _ c.in_ok-ask_page.ensures ∙ (asked_yes _ _ _ c.in_ok-ask_shut.ensures ∙ (needed_some _ _ _ _ c.in_ok-label.ensures
+    (asked_yes _ _ _ c.in_ok-page.ensures ∙ (asked_yes _ _ _ c.in_ok-ask_phase.ensures ∙ (needed_some _ _ _ _ c.in_ok-records.ensures.label
     ∙ asked_no _ _ _ _ c.in_err-ask_may_open.ensures))) refl refl))
-
-pub count_map-counts-requires : goal.count_map-counts-requires
-count_map-counts-requires g c =
-    let m = g.D.Drive.meaning c.args.self.now.drive in
-    let long = page_long (length c.args.page.now) c.in_ok-ask_page.ensures in
-    record { paged = omega (arith, long); sized = (label_sized m c.in_ok-label.label (some_of 3 _ _ c.in_ok-label.ensures)).0 }
 
 pub open-requires : goal.open-requires
 open-requires g c =
-    let m = g.D.Drive.meaning c.args.self.now.drive in
-    let few = few_entries m c.in_ok-label.label (some_of 3 _ _ c.in_ok-label.ensures) in
-    omega (arith, few, ap (λ l. l.entries) c.in_use-opened.ensures)
+    omega (arith, c.in_ok-records.records.few, ap (λ l. l.entries) c.in_use-opened.ensures)
 
 pub returns-in_err-post : goal.returns-in_err-post
 unfolding plan open_plan
 returns-in_err-post g c =
     let p = err_from_is_err_and c.from_residual-in_err-post.result c.from_residual-in_err-post.ensures.1 in
-    let same = ap {B = Volume} (λ m. record { drive = m; memory = view c.args.self.now.memory }) c.in_err-post.ensures.after in
+    let same = ap {B = Volume} (λ m. record { drive = m; memory = c.args.self.now.memory }) c.in_err-post.ensures.after in
     rw (p.1, p.2) (carried _ _ _ _ _ tt (post_refused_page _ _ _ _ _ _ _ _ _ _
-    (asked_yes _ _ _ c.in_ok-ask_page.ensures ∙ (asked_yes _ _ _ c.in_ok-ask_shut.ensures ∙ (needed_some _ _ _ _ c.in_ok-label.ensures
+    (asked_yes _ _ _ c.in_ok-page.ensures ∙ (asked_yes _ _ _ c.in_ok-ask_phase.ensures ∙ (needed_some _ _ _ _ c.in_ok-records.ensures.label
     ∙ asked_yes _ _ _ c.in_ok-ask_may_open.ensures)))
     (c.encode.ensures ∙ ap label_bytes c.in_use-opened.ensures) c.in_err-post.ensures.answer refl same))
 
@@ -65,11 +56,11 @@ pub returns : goal.returns
 unfolding plan open_plan
 returns g c =
     let posted = c.in_ok-post.ensures in
-    let v = view c.args.self.now.memory in
-    let l = c.in_ok-label.label in
+    let v = c.args.self.now.memory in
+    let l = c.in_ok-records.records.label in
     let next : Label = with_state l InUse (next_trouble l.state l.trouble) in
-    let held = c.open.ensures ∙ (ap (λ x. opened_as v x c.count_map-counts.result) c.in_use-opened.ensures ∙ ap (opened_as v next) c.count_map-counts.ensures) in
+    let held = c.open.ensures ∙ (ap (λ x. opened_as v x c.count_map-counts.result) c.in_use-opened.ensures ∙ (ap (opened_as v next) c.count_map-counts.ensures ∙ ap (λ d. opened_as v next (map (λ k. free_count (bits_shown (g.D.Drive.meaning d) l.id l.entries k)) (0 ∷ 1 ∷ 2 ∷ []))) c.in_ok-records.ensures.same)) in
     carried _ _ _ _ _ tt (posting_page _ _ _ _ _ _ _ _ _ posted.after.0
-    (asked_yes _ _ _ c.in_ok-ask_page.ensures ∙ (asked_yes _ _ _ c.in_ok-ask_shut.ensures ∙ (needed_some _ _ _ _ c.in_ok-label.ensures
+    (asked_yes _ _ _ c.in_ok-page.ensures ∙ (asked_yes _ _ _ c.in_ok-ask_phase.ensures ∙ (needed_some _ _ _ _ c.in_ok-records.ensures.label
     ∙ asked_yes _ _ _ c.in_ok-ask_may_open.ensures)))
     (c.encode.ensures ∙ ap label_bytes c.in_use-opened.ensures) posted.answer refl held posted.after.1)

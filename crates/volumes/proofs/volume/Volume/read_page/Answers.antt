@@ -7,31 +7,31 @@ use Rattle.model.specs.Plans.{read_plan}
 use Rattle.model.proofs.CarriedLaws.{asked_yes, asked_no, needed_some, needed_none, accepted_yes, accepted_no, refusing, keeping}
 use Rattle.volumes.proofs.volume.Volume.read_page.Goals as goal
 
-pub returns-in_err-ask_page : goal.returns-in_err-ask_page
+pub returns-in_err-ask_record : goal.returns-in_err-ask_record
 unfolding read_plan
-returns-in_err-ask_page g c =
+returns-in_err-ask_record g c =
     let p = err_from_is_err_and c.from_residual.result c.from_residual.ensures.1 in
-    rw (p.1, p.2) (refusing _ _ _ _ _ (asked_no _ _ _ _ c.in_err-ask_page.ensures) refl refl)
+    rw (p.1, p.2) (refusing _ _ _ _ _ (asked_no _ _ _ _ c.in_err-ask_record.ensures) refl refl)
 
-pub returns-in_err-ask_open : goal.returns-in_err-ask_open
+pub returns-in_err-ask_phase : goal.returns-in_err-ask_phase
 unfolding read_plan
-returns-in_err-ask_open g c =
-    let p = err_from_is_err_and c.from_residual-in_err-ask_open.result c.from_residual-in_err-ask_open.ensures.1 in
-    rw (p.1, p.2) (refusing _ _ _ _ _ (asked_yes _ _ _ c.in_ok-ask_page.ensures ∙ asked_no _ _ _ _ c.in_err-ask_open.ensures) refl refl)
+returns-in_err-ask_phase g c =
+    let p = err_from_is_err_and c.from_residual-in_err-ask_phase.result c.from_residual-in_err-ask_phase.ensures.1 in
+    rw (p.1, p.2) (refusing _ _ _ _ _ (asked_yes _ _ _ c.in_ok-ask_record.ensures ∙ asked_no _ _ _ _ c.in_err-ask_phase.ensures) refl refl)
 
 pub returns-in_err-used : goal.returns-in_err-used
 unfolding read_plan
 returns-in_err-used g c =
     let p = err_from_is_err_and c.from_residual-in_err-used.result c.from_residual-in_err-used.ensures.1 in
     rw (p.1, p.2) (refusing _ _ _ _ _
-    (asked_yes _ _ _ c.in_ok-ask_page.ensures ∙ (asked_yes _ _ _ c.in_ok-ask_open.ensures ∙ needed_none _ _ _ _ c.in_err-used.ensures.found)) refl refl)
+    (asked_yes _ _ _ c.in_ok-ask_record.ensures ∙ (asked_yes _ _ _ c.in_ok-ask_phase.ensures ∙ needed_none _ _ _ _ c.in_err-used.ensures.found)) refl refl)
 
 pub returns-in_err-address : goal.returns-in_err-address
 unfolding read_plan
 returns-in_err-address g c =
     let p = err_from_is_err_and c.from_residual-in_err-address.result c.from_residual-in_err-address.ensures.1 in
     rw (p.1, p.2) (refusing _ _ _ _ _
-    (asked_yes _ _ _ c.in_ok-ask_page.ensures ∙ (asked_yes _ _ _ c.in_ok-ask_open.ensures ∙ (needed_some _ _ _ _ c.in_ok-used.ensures.found
+    (asked_yes _ _ _ c.in_ok-ask_record.ensures ∙ (asked_yes _ _ _ c.in_ok-ask_phase.ensures ∙ (needed_some _ _ _ _ c.in_ok-used.ensures.found
     ∙ needed_none _ _ _ _ c.in_err-address.ensures))) refl refl)
 
 pub returns-in_err-read : goal.returns-in_err-read
@@ -39,7 +39,7 @@ unfolding read_plan
 returns-in_err-read g c =
     let p = err_from_is_err_and c.from_residual-in_err-read.result c.from_residual-in_err-read.ensures.1 in
     rw (p.1, p.2) (refusing _ _ _ _ _
-    (asked_yes _ _ _ c.in_ok-ask_page.ensures ∙ (asked_yes _ _ _ c.in_ok-ask_open.ensures ∙ (needed_some _ _ _ _ c.in_ok-used.ensures.found
+    (asked_yes _ _ _ c.in_ok-ask_record.ensures ∙ (asked_yes _ _ _ c.in_ok-ask_phase.ensures ∙ (needed_some _ _ _ _ c.in_ok-used.ensures.found
     ∙ (needed_some _ _ _ _ c.in_ok-address.ensures ∙ accepted_no _ _ _ c.in_err-read.ensures.answer)))) refl refl)
 
 pub returns : goal.returns
@@ -47,8 +47,8 @@ unfolding read_plan
 returns g c =
     let read = c.in_ok-read.ensures in
     let m = g.D.Drive.meaning c.args.self.now.drive in
-    let bytes = bytes_read m c.in_ok-address.address (Ok tt) c.args.page.now c.read.new.page (g.D.Drive.formed c.args.self.now.drive) (page_long (length c.args.page.now) c.in_ok-ask_page.ensures) read.answer read.filled in
+    let bytes = bytes_read m c.in_ok-address.address (Ok tt) c.args.page.now c.read.new.page (g.D.Drive.formed c.args.self.now.drive) (page_long (length c.args.page.now) c.in_ok-ask_record.ensures) read.answer read.filled in
     keeping _ _ _ _ _ _
-    (asked_yes _ _ _ c.in_ok-ask_page.ensures ∙ (asked_yes _ _ _ c.in_ok-ask_open.ensures ∙ (needed_some _ _ _ _ c.in_ok-used.ensures.found
+    (asked_yes _ _ _ c.in_ok-ask_record.ensures ∙ (asked_yes _ _ _ c.in_ok-ask_phase.ensures ∙ (needed_some _ _ _ _ c.in_ok-used.ensures.found
     ∙ (needed_some _ _ _ _ c.in_ok-address.ensures ∙ accepted_yes _ _ read.answer))))
     (ap (λ bs. Ok (page bs)) (sym bytes)) refl refl

@@ -1,12 +1,9 @@
 use Rattle.std.proofs.Common.{◌≡◌, ◌+◌, ◌-◌, ◌≤◌, ◌++◌, length, set, sym, refl, ap, ◌∙◌, subst, ap₂, arith}
 use Rattle.std.proofs.lemmas.Result.{err_from_is_err_and}
-use Rattle.memory.specs.Numbers.{listed}
-use Rattle.memory.specs.View.{view}
 use Rattle.model.specs.Calls.{Volume}
 use Rattle.model.specs.declared.memory.MapState.TheVariants.{Writing}
 use Rattle.model.specs.Memory.{Memory, held, with_stock}
 use Rattle.model.specs.Shown.{bits_shown}
-use Rattle.record.specs.declared.label.Label.{Label}
 use Rattle.model.proofs.CarriedLaws.{posting, post_refused}
 use Rattle.volumes.specs.Volumes.{volume_of, rules}
 use Rattle.volumes.proofs.Mapping.{used_within, section_taken}
@@ -16,35 +13,36 @@ pub returns-in_err-post_section : goal.returns-in_err-post_section
 returns-in_err-post_section g c =
     let p = err_from_is_err_and c.from_residual.result c.from_residual.ensures.1 in
     let v : Volume = volume_of g.D.Drive.meaning c.args.self.now in
-    let r = rules g.D.Of.Kind.depth g.D.Of.Kind.life in
+    let r = rules g.D.Of.Kind.DEPTH g.D.Of.Kind.LIFE in
     let takes = c.take_lowest-taken.ensures in
-    let service = c.len.ensures.same ∙ ap length c.service.ensures.value in
-    let shown = c.shown_section-section.ensures ∙ ap (λ (l : Label). bits_shown v.drive l.id l.entries c.in-Some.k) c.label-label.ensures in
+    let service = ap length c.service.ensures.value in
+    let shown = c.shown_section-section.ensures ∙ (λ j. bits_shown (g.D.Drive.meaning (c.records.ensures.same j)) (c.records.ensures.label j).id (c.records.ensures.label j).entries c.in-Some.k) in
     let plan = section_taken r v.drive v.memory _ _ _ _ _ c.in-Some.ensures.lowest (c.wanted-most.ensures ∙ ap (λ n. 16 - n) service) shown takes.left takes.taken in
     let kept = c.in_err-post_section.ensures in
-    let same = ap₂ {C = Volume} (λ d x. record { drive = d; memory = view x }) kept.after kept.same in
+    let same = ap₂ {C = Volume} (λ d x. record { drive = d; memory = x }) kept.after kept.same in
     rw (p.1, p.2) (post_refused r v _ _ _ _ _ _ _ plan kept.answer refl same)
 
 pub take-requires : goal.take-requires
 take-requires g c =
     let v = c.args.self.now.memory in
-    let none : length (listed v.unsettled) ≡ 0 = ap length c.requires.settled in
+    let none : length v.unsettled ≡ 0 = ap length c.requires.settled in
     let tickets = used_within v.tickets in
-    let four = v.four in
+    let four = c.service.ensures.sound.four in
     let service = ap length c.service.ensures.value in
-    let bound : held (view v) + length (listed c.take_lowest-taken.result) ≤ 32 = omega arith in
-    subst (λ m. held (view m) + length (listed c.take_lowest-taken.result) ≤ 32) (sym c.post_section.ensures.same) bound
+    let taken = ap length c.deref.ensures.0 in
+    let bound : held v + length c.deref.result.now ≤ 32 = omega arith in
+    subst (λ m. held m + length c.deref.result.now ≤ 32) (sym c.post_section.ensures.same) bound
 
 pub returns : goal.returns
 returns g c =
     let v : Volume = volume_of g.D.Drive.meaning c.args.self.now in
-    let r = rules g.D.Of.Kind.depth g.D.Of.Kind.life in
+    let r = rules g.D.Of.Kind.DEPTH g.D.Of.Kind.LIFE in
     let takes = c.take_lowest-taken.ensures in
-    let service = c.len.ensures.same ∙ ap length c.service.ensures.value in
-    let shown = c.shown_section-section.ensures ∙ ap (λ (l : Label). bits_shown v.drive l.id l.entries c.in-Some.k) c.label-label.ensures in
-    let plan = section_taken r v.drive v.memory _ _ _ _ _ c.in-Some.ensures.lowest (c.wanted-most.ensures ∙ ap (λ n. 16 - n) service) shown takes.left takes.taken in
+    let service = ap length c.service.ensures.value in
+    let shown = c.shown_section-section.ensures ∙ (λ j. bits_shown (g.D.Drive.meaning (c.records.ensures.same j)) (c.records.ensures.label j).id (c.records.ensures.label j).entries c.in-Some.k) in
+    let plan = section_taken r v.drive v.memory _ _ _ _ _ c.in-Some.ensures.lowest (c.wanted-most.ensures ∙ ap (λ n. 16 - n) service) shown takes.left (c.deref.ensures.0 ∙ takes.taken) in
     let posted = c.in_ok-post_section.ensures in
     let k = c.in-Some.k in
-    let taken = listed c.take_lowest-taken.result in
-    let held = c.take.ensures ∙ ap₂ {C = Memory} (λ x n. with_stock (view x) (Writing k) (set (view x).counts k n) (view x).service ((view x).unsettled ++ taken)) posted.same c.count.ensures in
+    let taken = c.deref.result.now in
+    let held = c.take.ensures ∙ ap₂ {C = Memory} (λ x n. with_stock x (Writing k) (set x.counts k n) x.service (x.unsettled ++ taken)) posted.same c.count.ensures in
     posting r v _ _ _ _ _ _ posted.after.0 plan posted.answer refl held posted.after.1

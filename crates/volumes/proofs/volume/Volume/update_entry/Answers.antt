@@ -1,7 +1,6 @@
 use Rattle.std.proofs.Common.{◌≡◌, List, map, Some, refl, ap, ◌∙◌}
 use mathlib.Core.List.{map-map}
 use Rattle.std.proofs.lemmas.Result.{err_from_is_err_and}
-use Rattle.memory.specs.View.{view}
 use Rattle.drive.specs.Meaning.{Meaning}
 use Rattle.record.specs.declared.entry.Entry.{Entry}
 use Rattle.model.specs.declared.memory.File.{File}
@@ -14,26 +13,26 @@ use Rattle.model.proofs.CarriedLaws.{asked_yes, asked_no, needed_some, needed_no
 use Rattle.volumes.proofs.Carrying.{posting_entry, entry_refused}
 use Rattle.volumes.proofs.volume.Volume.update_entry.Goals as goal
 
-pub returns-in_err-ask_page : goal.returns-in_err-ask_page
+pub returns-in_err-page : goal.returns-in_err-page
 unfolding plan update_plan
-returns-in_err-ask_page g c =
+returns-in_err-page g c =
     let p = err_from_is_err_and c.from_residual.result c.from_residual.ensures.1 in
     rw (p.1, p.2) (carried _ _ _ _ _ tt (refusing _ _ _ _ _
-    (asked_no _ _ _ _ c.in_err-ask_page.ensures) refl refl))
+    (asked_no _ _ _ _ c.in_err-page.ensures) refl refl))
 
-pub returns-in_err-ask_open : goal.returns-in_err-ask_open
+pub returns-in_err-ask_phase : goal.returns-in_err-ask_phase
 unfolding plan update_plan
-returns-in_err-ask_open g c =
-    let p = err_from_is_err_and c.from_residual-in_err-ask_open.result c.from_residual-in_err-ask_open.ensures.1 in
+returns-in_err-ask_phase g c =
+    let p = err_from_is_err_and c.from_residual-in_err-ask_phase.result c.from_residual-in_err-ask_phase.ensures.1 in
     rw (p.1, p.2) (carried _ _ _ _ _ tt (refusing _ _ _ _ _
-    (asked_yes _ _ _ c.in_ok-ask_page.ensures ∙ asked_no _ _ _ _ c.in_err-ask_open.ensures) refl refl))
+    (asked_yes _ _ _ c.in_ok-page.ensures ∙ asked_no _ _ _ _ c.in_err-ask_phase.ensures) refl refl))
 
 pub returns-in_err-used : goal.returns-in_err-used
 unfolding plan update_plan
 returns-in_err-used g c =
     let p = err_from_is_err_and c.from_residual-in_err-used.result c.from_residual-in_err-used.ensures.1 in
     rw (p.1, p.2) (carried _ _ _ _ _ tt (refusing _ _ _ _ _
-    (asked_yes _ _ _ c.in_ok-ask_page.ensures ∙ (asked_yes _ _ _ c.in_ok-ask_open.ensures
+    (asked_yes _ _ _ c.in_ok-page.ensures ∙ (asked_yes _ _ _ c.in_ok-ask_phase.ensures
     ∙ needed_none _ _ _ _ c.in_err-used.ensures.found)) refl refl))
 
 pub returns-in_err-ask_settled : goal.returns-in_err-ask_settled
@@ -41,7 +40,7 @@ unfolding plan update_plan
 returns-in_err-ask_settled g c =
     let p = err_from_is_err_and c.from_residual-in_err-ask_settled.result c.from_residual-in_err-ask_settled.ensures.1 in
     rw (p.1, p.2) (carried _ _ _ _ _ tt (refusing _ _ _ _ _
-    (asked_yes _ _ _ c.in_ok-ask_page.ensures ∙ (asked_yes _ _ _ c.in_ok-ask_open.ensures
+    (asked_yes _ _ _ c.in_ok-page.ensures ∙ (asked_yes _ _ _ c.in_ok-ask_phase.ensures
     ∙ (needed_some _ _ _ _ c.in_ok-used.ensures.found ∙ asked_no _ _ _ _ c.in_err-ask_settled.ensures))) refl refl))
 
 -- the entry that is posted names the pages that are Live once the slots have moved
@@ -54,23 +53,23 @@ pub returns-in_err-post_entry : goal.returns-in_err-post_entry
 unfolding plan update_plan
 returns-in_err-post_entry g c =
     let p = err_from_is_err_and c.from_residual-in_err-post_entry.result c.from_residual-in_err-post_entry.ensures.1 in
-    let same = ap {B = Volume} (λ m. record { drive = m; memory = view c.args.self.now.memory }) c.in_err-post_entry.ensures.after in
+    let same = ap {B = Volume} (λ m. record { drive = m; memory = c.args.self.now.memory }) c.in_err-post_entry.ensures.after in
     let names = named (g.D.Drive.meaning c.args.self.now.drive) c.in_ok-used.used _ _ c.moved_slots-moved.ensures c.naming_live-entry.ensures in
     rw (p.1, p.2) (carried _ _ _ _ _ tt (entry_refused _ _ _ _ _ _ _ _ _ _ _
-    (asked_yes _ _ _ c.in_ok-ask_page.ensures ∙ (asked_yes _ _ _ c.in_ok-ask_open.ensures
+    (asked_yes _ _ _ c.in_ok-page.ensures ∙ (asked_yes _ _ _ c.in_ok-ask_phase.ensures
     ∙ (needed_some _ _ _ _ c.in_ok-used.ensures.found ∙ asked_yes _ _ _ c.in_ok-ask_settled.ensures)))
     c.id.ensures names c.in_err-post_entry.ensures.answer refl same))
 
 pub returns : goal.returns
 unfolding plan update_plan
 returns g c =
-    let v = view c.args.self.now.memory in
+    let v = c.args.self.now.memory in
     let x = c.in_ok-used.used in
     let posted = c.in_ok-post_entry.ensures in
     let names = named (g.D.Drive.meaning c.args.self.now.drive) c.in_ok-used.used _ _ c.moved_slots-moved.ensures c.naming_live-entry.ensures in
     let held = c.move_slots.ensures x (some_of 6 _ _ c.in_ok-used.ensures.found)
     ∙ ap {B = Memory} (λ ss. with_file v c.args.file (Some (with_slots x ss))) c.moved_slots-moved.ensures in
     carried _ _ _ _ _ tt (posting_entry _ _ _ _ _ _ _ _ _ _ posted.after.0
-    (asked_yes _ _ _ c.in_ok-ask_page.ensures ∙ (asked_yes _ _ _ c.in_ok-ask_open.ensures
+    (asked_yes _ _ _ c.in_ok-page.ensures ∙ (asked_yes _ _ _ c.in_ok-ask_phase.ensures
     ∙ (needed_some _ _ _ _ c.in_ok-used.ensures.found ∙ asked_yes _ _ _ c.in_ok-ask_settled.ensures)))
     c.id.ensures names posted.answer refl held posted.after.1)

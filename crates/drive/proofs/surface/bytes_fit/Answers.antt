@@ -1,5 +1,0 @@
-use Rattle.drive.proofs.EachLaws.{all_bytes_from}
-use Rattle.drive.proofs.surface.bytes_fit.Goals as goal
-
-pub returns : goal.returns
-returns c = all_bytes_from c.args.bytes.now c.type_inv.bytes
