@@ -6,8 +6,9 @@ mod report;
 use crate::report::Report;
 use drive::card::Card;
 use drive::device::Drive;
+use figures::report::Wear;
 use store::making::make;
-use store::survey::look;
+use surveys::survey::look;
 
 const RECORDS: usize = 400;
 
@@ -23,7 +24,10 @@ fn run(rt: &HostRuntime) -> anyhow::Result<()> {
     let before = card.left();
     make(&mut card, VOLUME, ENTRIES, &mut page)?;
     let survey = look(&card, &mut page)?;
-    rt.print(Report::of(&survey, before, card.left()))?;
+    rt.print(Report {
+        survey: &survey,
+        wear: Wear::between(before, card.left()),
+    })?;
     Ok(())
 }
 

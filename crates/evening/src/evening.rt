@@ -1,14 +1,14 @@
 // The evening run: a new volume takes two pages of each meter and is closed.
+use crate::bench::Bench;
 use crate::meters::{METERS, Meter, PAGES};
 use crate::report::{Evening, Report};
-use crate::steps;
 use anyhow::anyhow;
-use drive::device::{Drive, Kind};
+use drive::device::Drive;
+use figures::report::Wear;
 use figures::writes_spent;
 use store::making::make;
-use surveys::survey::{Survey, look};
+use surveys::survey::Survey;
 use volumes::tokens::WorkingPass;
-use volumes::volume::Volume;
 
 const ENTRIES: u16 = 4;
 
@@ -22,99 +22,66 @@ pub fn run<D: Drive + Drop>(rt: &HostRuntime, mut drive: D) -> anyhow::Result<u3
     let before = drive.left();
     let made = writes_spent(new, before);
     println!(rt; "make            done, {made} writes")?;
-    let fresh = look(&drive, &mut page)?;
-    let mut volume = Volume::attach(drive);
-    let pass = steps::open(rt, &mut volume, &mut page)?;
-    fill(rt, &mut volume, &pass, &mut page)?;
-    let pass = close_too_soon(rt, &mut volume, pass)?;
-    leave(rt, &mut volume, &pass)?;
-    steps::close(rt, &mut volume, pass, &mut page)?;
-    report(rt, volume.drive(), &fresh, before, &mut page)?;
-    Ok(writes_spent(D::Of::whole_life(), volume.drive().left()))
+    let mut bench = Bench::new(rt, drive);
+    let fresh = bench.look()?;
+    let pass = bench.open()?;
+    fill(&mut bench, &pass)?;
+    let pass = close_too_soon(&mut bench, pass)?;
+    for meter in METERS {
+        bench.deactivate(&pass, meter)?;
+    }
+    bench.close(pass)?;
+    report(&mut bench, &fresh, before)?;
+    Ok(bench.wear())
 }
 
 // Reports on the volume, and on what the evening brought since it was fresh and the drive had so much life left.
-fn report<D: Drive>(
-    rt: &HostRuntime,
-    drive: &D,
-    fresh: &Survey,
-    before: u32,
-    page: &mut [u8],
-) -> anyhow::Result<()> {
-    let seen = look(drive, page)?;
-    let left = drive.left();
-    println!(rt; "\nREPORT OF THE EVENING")?;
-    rt.print(Report::of(&seen, before, left))?;
-    rt.print(Evening::of(fresh, &seen, before, left))?;
-    Ok(())
-}
-
-// Leaves the meters' files.
-fn leave<D: Drive>(
-    rt: &HostRuntime,
-    volume: &mut Volume<D>,
-    pass: &WorkingPass,
-) -> anyhow::Result<()> {
-    for meter in METERS {
-        let number = meter.number;
-        let left = volume.deactivate(pass, meter.file);
-        steps::tell(rt, "deactivate", format_args!("meter {number}"), left)?;
-    }
+fn report<D: Drive>(bench: &mut Bench<D>, fresh: &Survey, before: u32) -> anyhow::Result<()> {
+    let seen = bench.look()?;
+    let wear = Wear::between(before, bench.volume.drive().left());
+    println!(bench.rt; "\nREPORT OF THE EVENING")?;
+    bench.rt.print(Report {
+        survey: &seen,
+        wear,
+    })?;
+    bench.rt.print(Evening::of(fresh, &seen, wear))?;
     Ok(())
 }
 
 // Creates the meters' files, stores their pages, and reads them back.
-fn fill<D: Drive>(
-    rt: &HostRuntime,
-    volume: &mut Volume<D>,
-    pass: &WorkingPass,
-    page: &mut [u8],
-) -> anyhow::Result<()> {
+fn fill<D: Drive>(bench: &mut Bench<D>, pass: &WorkingPass) -> anyhow::Result<()> {
     for meter in METERS {
-        let number = meter.number;
-        let entry = meter.entry;
-        let made = volume.create(pass, meter.file, entry, number, page);
-        let about = format_args!("meter {number}, entry {entry}");
-        steps::tell(rt, "create", about, made)?;
+        bench.create(pass, meter)?;
     }
-    steps::settle(rt, volume)?;
-    steps::balance(rt, volume, pass, page)?;
+    bench.settle()?;
+    bench.balance(pass)?;
     for meter in METERS {
-        store(rt, volume, pass, meter, page)?;
+        store(bench, pass, meter)?;
     }
     for meter in METERS {
-        steps::read_pages(rt, volume, pass, meter, page)?;
+        bench.read_pages(pass, meter)?;
     }
     Ok(())
 }
 
 // Places the pages of one meter, and names them in its entry once they have settled.
-fn store<D: Drive>(
-    rt: &HostRuntime,
-    volume: &mut Volume<D>,
-    pass: &WorkingPass,
-    meter: Meter,
-    page: &mut [u8],
-) -> anyhow::Result<()> {
+fn store<D: Drive>(bench: &mut Bench<D>, pass: &WorkingPass, meter: Meter) -> anyhow::Result<()> {
     for slot in 0..PAGES {
-        steps::store_page(rt, volume, pass, meter, slot, page)?;
+        bench.store_page(pass, meter, slot)?;
     }
-    steps::settle(rt, volume)?;
-    let number = meter.number;
-    let updated = volume.update(pass, meter.file, page);
-    steps::tell(rt, "update", format_args!("meter {number}"), updated)?;
-    steps::settle(rt, volume)
+    bench.settle()?;
+    bench.update(pass, meter)?;
+    bench.settle()
 }
 
 // A volume with files in use cannot be closed: the refusal hands the pass back.
 fn close_too_soon<D: Drive>(
-    rt: &HostRuntime,
-    volume: &mut Volume<D>,
+    bench: &mut Bench<D>,
     pass: WorkingPass,
 ) -> anyhow::Result<WorkingPass> {
-    let Err((pass, fault)) = volume.close(pass) else {
+    let Err((pass, fault)) = bench.volume.close(pass) else {
         return Err(anyhow!("a volume with files in use was closed"));
     };
-    println!(rt; "close           files in use: {fault}")?;
+    println!(bench.rt; "close           files in use: {fault}")?;
     Ok(pass)
 }

@@ -2,12 +2,12 @@
 // volume is salvaged. The parts work on one memory, that of the cabinet's drive.
 #![tactic(auto)]
 
+mod bench;
 mod cut;
 mod evening;
 mod mend;
 mod meters;
 mod report;
-mod steps;
 
 use crate::meters::METERS;
 use anyhow::anyhow;

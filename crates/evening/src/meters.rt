@@ -1,4 +1,5 @@
 // The meters of the round, and what their pages of readings hold.
+use std::fmt;
 
 // A meter, the entry that it has on the volume, and the file that it is worked on in.
 #[derive(Clone, Copy)]
@@ -47,24 +48,20 @@ impl Meter {
             .wrapping_add(shift.wrapping_mul(89))
     }
 
-    // Fills the page with the readings for a slot.
-    pub fn fill(self, slot: usize, page: &mut [u8]) {
+    // The page of readings for a slot.
+    pub fn readings(self, slot: usize) -> [u8; 512] {
+        let mut page = [0; 512];
         let mut next = self.first_byte(slot);
-        for byte in page.iter_mut() {
+        for byte in &mut page {
             *byte = next;
             next = next.wrapping_add(3);
         }
+        page
     }
+}
 
-    // Whether the page holds the readings for a slot.
-    pub fn holds(self, slot: usize, page: &[u8]) -> bool {
-        let mut next = self.first_byte(slot);
-        for byte in page.iter() {
-            if *byte != next {
-                return false;
-            }
-            next = next.wrapping_add(3);
-        }
-        true
+impl fmt::Display for Meter {
+    fn fmt<W: fmt::Write>(&self, f: &mut fmt::Formatter<W>) -> fmt::Result {
+        write!(f, "meter {}", self.number)
     }
 }

@@ -1,14 +1,15 @@
 -- The figures of a report.
-use Rattle.std.specs.Prelude.{false, cond, ℕ, ◌+◌, ◌-◌, ◌*◌, ◌/◌, eqb, get_or}
+use Rattle.std.specs.Prelude.{cond, ℕ, ◌-◌, ◌*◌, ◌/◌, eqb, sum_by, unwrap_or}
+use Rattle.surveys.specs.declared.survey.SectionFigures.{SectionFigures}
 use Rattle.surveys.specs.declared.survey.Survey.{Survey}
 
--- how many records section k counts as free
-abbrev pub section_free : Survey → ℕ → ℕ
-section_free s k = (get_or s.sections k (record { sound = false; covered = 0; free = 0 })).free
+-- how many records a section counts as free: none where it is not sound
+abbrev pub section_free : SectionFigures → ℕ
+section_free x = unwrap_or x.free 0
 
 -- how many records are free on the whole map
 abbrev pub records_free : Survey → ℕ
-records_free s = section_free s 0 + section_free s 1 + section_free s 2
+records_free s = sum_by section_free s.sections
 
 -- how many entries do not show sound
 abbrev pub entries_unsound : Survey → ℕ

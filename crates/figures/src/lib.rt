@@ -1,27 +1,33 @@
 // The figures of a report, from what a look at a volume shows.
 #![tactic(auto)]
 
-ghost use Rattle.std.specs.Prelude.{◌≡◌, ◌-◌, ◌<◌};
+pub mod report;
+
+ghost use Rattle.std.specs.Prelude.{◌≡◌, ◌-◌, ◌^◌, ◌<◌, sum_by};
 ghost use Rattle.figures.specs.Figures.{section_free, records_free, entries_unsound, page_records, pages_adrift, pages_stored, hundredths};
 
-use surveys::survey::Survey;
+use surveys::survey::{SectionFigures, Survey};
 
-// How many records one section counts as free.
-fn section_free(survey: &Survey, k: usize) -> u32
-    requires { k < 3 }
-    ensures { result ≡ section_free survey.now k }
+// How many records one section counts as free: none where it is not sound.
+fn section_free(section: &SectionFigures) -> u64
+    ensures value { result ≡ section_free section.now }
+    ensures bound { result < 2 ^ 32 }
 {
-    survey.sections[k].free
+    u64::from(section.free.unwrap_or(0))
 }
 
 // How many records are free on the map.
 pub fn records_free(survey: &Survey) -> u64
     ensures { result ≡ records_free survey.now }
 {
-    let first = section_free(survey, 0);
-    let second = section_free(survey, 1);
-    let third = section_free(survey, 2);
-    u64::from(first) + u64::from(second) + u64::from(third)
+    free_in(&survey.sections)
+}
+
+// How many records the sections count as free.
+fn free_in(sections: &[SectionFigures; 3]) -> u64
+    ensures { result ≡ sum_by section_free sections.now }
+{
+    sections.iter().map(section_free).sum()
 }
 
 // How many entries do not show sound.

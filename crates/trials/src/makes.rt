@@ -6,7 +6,7 @@ use drive::device::Drive;
 use drive::fault::{Fault, Question};
 use std::test::Fail;
 use store::making::make;
-use store::survey::look;
+use surveys::survey::look;
 
 #[test]
 fn make_posts_entries_map_copy_and_label_in_this_order(rt: HostRuntime) -> Result<(), Fail> {
@@ -14,10 +14,7 @@ fn make_posts_entries_map_copy_and_label_in_this_order(rt: HostRuntime) -> Resul
     let mut marks = [0u8; 20];
     let mut page = [1u8; 512];
     let notes = noted_make(Cabinet::new(&mut bytes, &mut marks, 0), 1, 2, &mut page)?;
-    assert_eq!(rt; notes.len(), 7);
-    for (at, wanted) in notes.iter().zip([8u16, 9, 1, 2, 3, 7, 0].iter()) {
-        assert_eq!(rt; *at, *wanted);
-    }
+    assert_eq!(rt; notes.as_slice(), [8u16, 9, 1, 2, 3, 7, 0].as_slice());
     assert_eq!(rt; page[511], 0);
     Ok(())
 }
@@ -58,7 +55,7 @@ fn a_volume_that_was_made_is_seen(rt: HostRuntime) -> Result<(), Fail> {
     assert_eq!(rt; seen.label.records, 11);
     assert_eq!(rt; seen.label.entries, 2);
     assert_eq!(rt; seen.free_entries, 2);
-    assert_eq!(rt; seen.sections[0].free, 1);
+    assert_eq!(rt; seen.sections[0].free, Some(1));
     assert_eq!(rt; card.read(10, &mut page), Err(Question::Readable.at(10)));
     Ok(())
 }

@@ -22,7 +22,7 @@ pub fn noted_make<D: Drive + Drop>(
 ) -> Result<Notes, Fault> {
     let mut noting = Noting {
         inner: drive,
-        notes: Notes::new(),
+        notes: ArrayVec::new(),
     };
     make(&mut noting, id, entries, page)?;
     Ok(noting.notes)
@@ -41,9 +41,8 @@ impl<D: Drive> Drive for Noting<D> {
 
     fn post(&mut self, at: u16, page: &[u8]) -> Result<(), Fault> {
         self.inner.post(at, page)?;
-        if !self.notes.is_full() {
-            self.notes.push(at);
-        }
+        // A seventeenth address and those after it are not noted.
+        let _ = self.notes.try_push(at);
         Ok(())
     }
 

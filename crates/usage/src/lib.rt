@@ -20,17 +20,17 @@ pub fn place_one_and_deposit_another<D: Drive>(
 ) -> Result<(), Fault> {
     match volume.withdraw(pass)? {
         Withdrawn::Granted(first) => place(volume, pass, first, file, slot, page)?,
-        Withdrawn::Wait => {}
-        Withdrawn::Full => {}
+        Withdrawn::Wait | Withdrawn::Full => {}
     }
+    withdraw_and_deposit(volume, pass)
+}
+
+// Withdraws a grant, where there is one, and deposits it again.
+fn withdraw_and_deposit<D: Drive>(volume: &mut Volume<D>, pass: &WorkingPass) -> Result<(), Fault> {
     match volume.withdraw(pass)? {
-        Withdrawn::Granted(second) => {
-            volume.deposit(second)?;
-        }
-        Withdrawn::Wait => {}
-        Withdrawn::Full => {}
+        Withdrawn::Granted(grant) => volume.deposit(grant),
+        Withdrawn::Wait | Withdrawn::Full => Ok(()),
     }
-    Ok(())
 }
 
 // Places the page; a grant that comes back is deposited.
@@ -66,11 +66,7 @@ pub fn close_and_open_again<D: Drive>(
         return Err(fault);
     }
     let again = volume.open(page)?;
-    match volume.withdraw(&again)? {
-        Withdrawn::Granted(grant) => volume.deposit(grant),
-        Withdrawn::Wait => Ok(()),
-        Withdrawn::Full => Ok(()),
-    }
+    withdraw_and_deposit(volume, &again)
 }
 
 // Gives back what is in service, a section a turn, and polls until each is settled.

@@ -20,8 +20,7 @@ fn granted<D: Drive>(volume: &mut Volume<D>, pass: &WorkingPass) -> Result<Optio
             volume.deposit(grant)?;
             Ok(Some(address))
         }
-        Withdrawn::Wait => Ok(None),
-        Withdrawn::Full => Ok(None),
+        Withdrawn::Wait | Withdrawn::Full => Ok(None),
     }
 }
 
