@@ -3,13 +3,11 @@ ghost use Rattle.std.specs.Prelude.{◌≡◌, ◌<◌, IfOk, OnOk, length};
 ghost use Rattle.drive.specs.Answers.{address_answer, room_answer};
 ghost use Rattle.drive.specs.Faults.{said, answered};
 
-use crate::device::Kind;
+use crate::device::{Kind, RECORD};
 use crate::fault::{Fault, Question};
 
-pub const RECORD: usize = 512;
-
 // Is the page a record's, and the address below `size`? If so, the page as a record's bytes.
-pub fn ask_record(page: &[u8], at: u16, size: usize) -> Result<&[u8; 512], Fault>
+pub fn ask_record(page: &[u8], at: u16, size: usize) -> Result<&[u8; RECORD], Fault>
     ensures answer { said (answered result) ≡ address_answer (length page.now) at size }
     ensures bytes { IfOk result (λ bytes. bytes.now ≡ page.now) }
 {

@@ -6,6 +6,9 @@ ghost use Rattle.drive.specs.Meaning.{Meaning, WellFormed, size, owed, pending};
 
 use crate::fault::Fault;
 
+// How many bytes a record has.
+pub const RECORD: usize = 512;
+
 // A kind of drive: how many writes may be outstanding, and how many it ever accepts.
 pub trait Kind {
     ghost DEPTH: { ℕ };

@@ -1,6 +1,6 @@
 // Why a call is refused: the first question that was answered no, and the record it concerns.
-ghost use Rattle.std.specs.Prelude.{◌≡◌};
-ghost use Rattle.drive.specs.Faults.{number_of, layer_of, layer_number, no_record};
+ghost use Rattle.std.specs.Prelude.{◌≡◌, Ok, Err, if◌then◌else◌};
+ghost use Rattle.drive.specs.Faults.{number_of, layer_of, layer_number, no_record, refusal, said};
 
 use std::error::Error;
 use std::fmt;
@@ -119,6 +119,16 @@ impl Question {
         ensures { result ≡ record { question = self; address = no_record } }
     {
         self.at(NO_RECORD)
+    }
+
+    // Puts the question, of no record: a no is a refusal.
+    pub fn ask(self, yes: bool) -> Result<(), Fault>
+        ensures { said result ≡ (if yes then Ok tt else Err (refusal (number_of self) no_record)) }
+    {
+        if !yes {
+            return Err(self.refused());
+        }
+        Ok(())
     }
 }
 

@@ -4,7 +4,7 @@ ghost use Rattle.drive.specs.Each.{each, holds_bytes};
 ghost use Rattle.drive.specs.Meaning.{readable, spoiled};
 ghost use Rattle.drive.specs.Surfaces.{extent, states};
 
-use crate::asking::RECORD;
+use crate::device::RECORD;
 
 // A `u16` addresses no more, since 65535 names no record.
 pub const MOST_RECORDS: usize = 65535;

@@ -6,6 +6,7 @@ pub mod report;
 ghost use Rattle.std.specs.Prelude.{◌≡◌, ◌-◌, ◌^◌, ◌<◌, sum_by};
 ghost use Rattle.figures.specs.Figures.{section_free, records_free, entries_unsound, page_records, pages_adrift, pages_stored, hundredths};
 
+use record::region::FIRST_ENTRY;
 use surveys::survey::{SectionFigures, Survey};
 
 // How many records one section counts as free: none where it is not sound.
@@ -44,11 +45,11 @@ pub fn writes_spent(before: u32, after: u32) -> u32
     before.saturating_sub(after)
 }
 
-// How many records the volume has for pages: all but the 8 at its start and the entries.
+// How many records the volume has for pages: all but those before the entries, and the entries.
 pub fn page_records(survey: &Survey) -> u16
     ensures { result ≡ page_records survey.now }
 {
-    let rest = survey.label.records.saturating_sub(8);
+    let rest = survey.label.records.saturating_sub(FIRST_ENTRY);
     rest.saturating_sub(survey.label.entries)
 }
 

@@ -37,10 +37,7 @@ fn is_in_some_file(files: &[Option<File>], number: u16) -> bool
 pub fn ask_meter(meter: u32) -> Result<(), Fault>
     ensures { said result ≡ asked 8 (not (meter == 0)) }
 {
-    if meter == 0 {
-        return Err(Question::Meter.refused());
-    }
-    Ok(())
+    Question::Meter.ask(meter != 0)
 }
 
 // Does entry `number` show sound and free?

@@ -19,6 +19,7 @@ pub fn take_lowest<const N: usize>(section: &mut Section, k: u8, most: usize) ->
     let first = COVERED as usize * usize::from(k);
     let mut taken = ArrayVec::new();
     let mut from = 0;
+    // A loop: each take changes the section that the next search goes over.
     while taken.len() < most {
         let Some(r) = section.lowest_free(from) else {
             break;

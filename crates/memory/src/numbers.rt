@@ -22,6 +22,7 @@ pub fn part<const N: usize>(numbers: &[u16], k: u8, most: usize) -> Parted<N>
 {
     let mut given = ArrayVec::new();
     let mut staying = ArrayVec::new();
+    // A loop: partition makes no lists of a fixed capacity, and how many are given so far is asked on the way.
     for a in numbers {
         if given.len() < most && is_covered(*a, k) {
             given.push(*a);

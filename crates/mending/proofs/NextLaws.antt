@@ -3,12 +3,10 @@ use Rattle.std.proofs.Common.{◌≡◌, ℕ, ◌+◌, true, List, [], Some, Non
 use Rattle.std.proofs.lemmas.Bool.{cond-true}
 use Rattle.drive.specs.Meaning.{Meaning, size, shown}
 use Rattle.record.specs.declared.label.Label.{Label}
-use Rattle.record.specs.declared.label.LabelState.TheVariants.{Closed}
 use Rattle.record.specs.Regions.{page_region}
-use Rattle.model.specs.Volume.{label_bytes, entry_bytes}
 use Rattle.model.specs.Memory.{Memory}
-use Rattle.model.specs.Outcomes.{Rules, post, entry, section, ended}
-use Rattle.model.specs.Shown.{with_state, label_in_state}
+use Rattle.model.specs.Outcomes.{Rules, post, section}
+use Rattle.model.specs.Shown.{label_in_state}
 use Rattle.model.specs.Mending.{Unmended, first_unmended, mended_section, first_inexact, is_salvage, end_or_section, map_or_entry, salvaging}
 use Rattle.mending.specs.Sought.{unmended_in, inexact_in}
 use Rattle.mending.proofs.InexactLaws.{exact}
@@ -19,11 +17,6 @@ module _ (m : Meaning) (l : Label) (sized : l.records ≡ size m) (begun' : true
   entries_first q is g v =
       cond-true (is_salvage (label_in_state (size m) (shown m 0))) _ _ (sym begun')
       ∙ ap (map_or_entry g m v l) ((λ j. first_unmended l.id (page_region l.entries (sym sized j)) (shown m) [] 0 l.entries) ∙ sym is)
-
-  pub next_entry : (u : Unmended) (bytes : List ℕ) → Some u ≡ unmended_in l (shown m) → bytes ≡ entry_bytes l.id u.form
-      → (g : Rules) (v : Memory) → salvaging g m v l ≡ post g m (entry u.number) v (record { at = 8 + u.number; bytes = bytes })
-  next_entry u bytes found is g v =
-      entries_first (Some u) found g v ∙ ap (λ bs. post g m (entry u.number) v (record { at = 8 + u.number; bytes = bs })) (sym is)
 
   -- what the sections are found to be
   sections_next : (q : Option ℕ) → None ≡ unmended_in l (shown m) → q ≡ inexact_in l (shown m)
@@ -38,8 +31,3 @@ module _ (m : Meaning) (l : Label) (sized : l.records ≡ size m) (begun' : true
   next_section k j bytes at' none found is g v =
       let bytes_are : mended_section l.id l.entries (size m) (shown m) k ≡ bytes = (λ i. mended_section l.id l.entries (sym sized i) (shown m) k) ∙ sym is in
       sections_next (Some k) none found g v ∙ (λ i. post g m (section k) v (record { at = 1 + sym at' i; bytes = bytes_are i }))
-
-  pub next_ended : (bytes : List ℕ) → None ≡ unmended_in l (shown m) → None ≡ inexact_in l (shown m) → bytes ≡ label_bytes (with_state l Closed 0)
-      → (g : Rules) (v : Memory) → salvaging g m v l ≡ post g m ended v (record { at = 0; bytes = bytes })
-  next_ended bytes none none' is g v =
-      sections_next None none none' g v ∙ ap (λ bs. post g m ended v (record { at = 0; bytes = bs })) (sym is)

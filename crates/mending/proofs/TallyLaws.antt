@@ -1,6 +1,6 @@
 -- What a tally says, one address after the other.
-use Rattle.std.proofs.Common.{◌≡◌, ℕ, ◌+◌, ◌<◌, ◌≤◌, Bool, true, false, cond, not, ◌&&◌, ◌||◌, eqb, ltb, leb, ◌≢◌, List, [], ◌∷◌, ◌++◌, length, get_or, take, drop, set, replicate, sym, refl, ap, ◌∙◌, subst, ap₂, inl, inr, arith}
-use Rattle.std.proofs.lemmas.List.{append_assoc, append-nil, at_drop_all, at_drop_more, get_or_past, get_or-replicate, get_or-set_other, get_or-set_same, length-replicate, length-set, take_all, take_more, take_more_set}
+use Rattle.std.proofs.Common.{◌≡◌, ℕ, ◌+◌, ◌<◌, ◌≤◌, Bool, true, false, cond, not, ◌&&◌, ◌||◌, eqb, ltb, leb, ◌≢◌, List, [], ◌∷◌, ◌++◌, length, get_or, take, drop, set, replicate, sym, refl, ap, ◌∙◌, subst, inl, inr, arith}
+use Rattle.std.proofs.lemmas.List.{append_assoc, at_drop_more, get_or_past, get_or-replicate, get_or-set_other, get_or-set_same, length-set, take_more, take_more_set}
 use Rattle.std.proofs.lemmas.Bool.{and_parts, cases_Bool, cases_eq, cases_lt, eq-eqb, leb-true, ltb-true, ne_eqb, not-false, and_cases, both_ways}
 use Rattle.record.specs.declared.region.Region.{Region}
 use Rattle.record.specs.Regions.{within}
@@ -73,34 +73,10 @@ noting_adds g x t false t' long n a h =
 
 -- ---- whole tallies
 
-pub noted_none : (t : List ℕ) (n : ℕ) → t ≡ replicate n 0 → (a : ℕ) → noted t a ≡ false
-noted_none t n is a =
-    let zero' : get_or (replicate n 0) a 0 ≡ 0 = elim (cases_lt a n) [
-      | inl low ↦ get_or-replicate {A = ℕ} n a 0 0 low
-      | inr high ↦ get_or_past (replicate n 0) a 0 (let l = length-replicate {A = ℕ} n 0 in omega arith)
-    ] in
-    ap (λ (u : List ℕ). noted u a) is ∙ ap (λ b. not (eqb b 0)) zero'
-
 pub tallies_more : (g : Region) (xs t t' kept : List ℕ) → Adds g xs t t' → Tallies g t kept → Tallies g t' (xs ++ kept)
 tallies_more g xs t t' kept A T a h = A a h ∙ (ap (λ b. among a xs || b) (T a h) ∙ sym (among_joined a xs kept))
 
 -- ---- the addresses of a list, one after the other
-
-pub adding_more : (g : Region) (xs before t : List ℕ) (i : ℕ) (r : Bool) (t' : List ℕ) → i < length xs → g.to ≤ length t → Noting g (get_or xs i 0) t r t'
-    → ((a : ℕ) → within g a ≡ true → (among a (drop i xs) || noted t a) ≡ (among a xs || noted before a))
-    → (a : ℕ) → within g a ≡ true → (among a (drop (i + 1) xs) || noted t' a) ≡ (among a xs || noted before a)
-adding_more g xs before t i r t' low long n inv a h =
-    let x = get_or xs i 0 in
-    let rest = among a (drop (i + 1) xs) in
-    let one : among a (drop i xs) ≡ (eqb x a || rest) = at_drop_more (among a) xs i 0 low in
-    ap (λ b. rest || b) (noting_adds g x t r t' long n a h)
-    ∙ (sym (or_assoc rest (eqb x a) (noted t a))
-    ∙ (ap (λ b. b || noted t a) (or_comm rest (eqb x a) ∙ sym one) ∙ inv a h))
-
-pub adding_all : (g : Region) (xs before t : List ℕ) (i : ℕ) → length xs ≤ i
-    → ((a : ℕ) → within g a ≡ true → (among a (drop i xs) || noted t a) ≡ (among a xs || noted before a)) → Adds g xs before t
-adding_all g xs before t i high inv a h =
-    ap (λ b. b || noted t a) (sym (at_drop_all (among a) xs i high)) ∙ inv a h
 
 -- ---- the slots of an entry, one after the other
 
@@ -195,13 +171,3 @@ mending_passed g slots before t k p t' k' low low' past n is M =
       rest = λ j h. ap (λ u. get_or u j 0) is ∙ M.rest j (omega arith);
       long = ap length is ∙ M.long;
     }
-
-pub mending_all : (g : Region) (slots before t k : List ℕ) (p : ℕ) → length slots ≤ p → length k ≤ p → Mending g slots before t k p
-    → ((kept : List ℕ) → Tallies g before kept → k ≡ mended_slots g kept slots) × Adds g k before t
-mending_all g slots before t k p high high' M =
-    let all = take_all p k high' in (
-      (λ kept T.
-          let f = M.form kept T in
-          sym (append-nil k) ∙ (ap₂ (λ u v. u ++ v) (sym all) (sym (at_drop_all (mended_slots g f.0) slots p high)) ∙ f.2)),
-      subst (λ (u : List ℕ). Adds g u before t) all M.tally,
-    )

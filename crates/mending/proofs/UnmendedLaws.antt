@@ -13,7 +13,7 @@ use Rattle.model.specs.Shown.{bytes_in, entry_in_state}
 use Rattle.model.specs.Mending.{Unmended, mended, shows, States, first_unmended, slots_or_none, named_from}
 use Rattle.mending.specs.Sought.{pages_of, form_of, unless_shown, unmended_in, named_in}
 use Rattle.mending.specs.Tallies.{noted, Tallies, Adds}
-use Rattle.mending.proofs.TallyLaws.{or_assoc, or_comm, or_none, among_joined, tallies_more}
+use Rattle.mending.proofs.TallyLaws.{or_assoc, or_comm, among_joined, tallies_more}
 
 -- ---- one entry
 
@@ -93,11 +93,6 @@ module _ (l : Label) (s : States) where
   abbrev pub Naming : List ℕ → ℕ → Type 0
   Naming tally i = (a : ℕ) → within (pages_of l) a ≡ true → (among a (names i (l.entries - i)) || noted tally a) ≡ among a (named_in l s)
 
-  pub naming_none : (tally : List ℕ) → ((a : ℕ) → noted tally a ≡ false) → Naming tally 0
-  naming_none tally none a h =
-      let all : l.entries - 0 ≡ l.entries = omega arith in
-      (λ j. among a (names 0 (all j)) || none a j) ∙ or_none (among a (named_in l s))
-
   -- entry i names the addresses xs
   pub naming_more : (tally tally' xs : List ℕ) (i : ℕ) → i < l.entries → xs ≡ slots_or_none (entry_in_state l.id l.entries l.records (s (entry_at i)))
       → Adds (pages_of l) xs tally tally' → Naming tally i → Naming tally' (i + 1)
@@ -108,8 +103,3 @@ module _ (l : Label) (s : States) where
       ap (λ b. among a rest || b) (A a h)
       ∙ (sym (or_assoc (among a rest) (among a xs) (noted tally a))
       ∙ (ap (λ b. b || noted tally a) (or_comm (among a rest) (among a xs) ∙ sym here) ∙ N a h))
-
-  pub naming_all : (tally : List ℕ) (i : ℕ) → l.entries ≤ i → Naming tally i → Tallies (pages_of l) tally (named_in l s)
-  naming_all tally i high N a h =
-      let z : l.entries - i ≡ 0 = omega arith in
-      sym (ap (λ k. among a (names i k) || noted tally a) z) ∙ N a h

@@ -27,6 +27,7 @@ pub(crate) fn first_unmended<D: Drive>(
     ensures { unmended_of result ≡ unmended_in records.now.label (shown (D.meaning records.now.drive.now)) }
 {
     clear(tally);
+    // A loop: find_map's closure would change the tally, of which a proof then knows nothing.
     for i in 0..records.label.entries {
         if let Some(form) = unmended_form(records, i, page, tally) {
             return Some(Unmended { number: i, form });
@@ -89,6 +90,7 @@ fn mend_slots(slots: &[u16; 64], region: &Region, tally: &mut [u8]) -> [u16; 64]
     ensures tally { Adds region.now result tally.old tally.new }
 {
     let mut mended = [0; 64];
+    // A loop: map's closure would change the tally, of which a proof then knows nothing.
     for (p, a) in slots.iter().enumerate() {
         if note(*a, region, tally) {
             mended[p] = *a;

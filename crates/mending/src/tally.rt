@@ -1,4 +1,5 @@
-// The tally: a byte for each record of the drive, not 0 where the record's address is noted.
+// The tally: a byte for each record of the drive, not 0 where the record's address is noted. It goes beside its region: in
+// one value with it, every function that notes would have to promise that the region stays.
 ghost use Rattle.std.specs.Prelude.{◌≡◌, ℕ, ◌≤◌, false, not, ◌&&◌, length, if◌then◌else◌, slice_set};
 ghost use Rattle.drive.specs.Meaning.{shown};
 ghost use Rattle.mending.specs.Sought.{pages_of, named_in};

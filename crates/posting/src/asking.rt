@@ -9,18 +9,12 @@ use drive::fault::{Fault, Question};
 pub fn ask_tally(length: usize, records: usize) -> Result<(), Fault>
     ensures { said result ≡ asked 5 (length == records) }
 {
-    if length != records {
-        return Err(Question::TallyLength.refused());
-    }
-    Ok(())
+    Question::TallyLength.ask(length == records)
 }
 
 // Is nothing outstanding?
 pub fn ask_quiet(owed: usize) -> Result<(), Fault>
     ensures { said result ≡ asked 15 (owed == 0) }
 {
-    if owed != 0 {
-        return Err(Question::Settled.refused());
-    }
-    Ok(())
+    Question::Settled.ask(owed == 0)
 }

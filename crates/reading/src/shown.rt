@@ -64,9 +64,7 @@ impl<'a, D: Drive> Records<'a, D> {
         ensures label { told_with (λ r. r.label) result ≡ or_refused 3 (label_shown (D.meaning drive.now)) }
         ensures same { IfOk result (λ r. r.drive.now ≡ drive.now) }
     {
-        let Some(label) = believed_label(drive, page) else {
-            return Err(Question::Believed.refused());
-        };
+        let label = believed_label(drive, page).ok_or(Question::Believed.refused())?;
         Ok(Records { drive, label })
     }
 

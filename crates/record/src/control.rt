@@ -4,8 +4,7 @@ ghost use Rattle.record.specs.Control.{check, whole};
 ghost use Rattle.record.specs.Words.{put, words};
 
 use crate::words::{get_word, put_word};
-
-pub const RECORD: usize = 512;
+pub use drive::device::RECORD;
 
 // The place of the check word.
 const CHECK: usize = 1;

@@ -35,10 +35,7 @@ impl Memory {
     pub fn ask_phase(&self, wanted: Phase) -> Result<(), Fault>
         ensures { said result ≡ asked 2 (is_phase wanted self.now.phase) }
     {
-        if self.phase != wanted {
-            return Err(Question::Phase.refused());
-        }
-        Ok(())
+        Question::Phase.ask(self.phase == wanted)
     }
 
     pub fn is_idle(&self) -> bool

@@ -111,8 +111,5 @@ impl Memory {
 fn ask_at_rest(file: &File) -> Result<(), Fault>
     ensures { said result ≡ asked 14 (all_at_rest file.now.slots) }
 {
-    if !entries::are_at_rest(&file.slots) {
-        return Err(Question::AtRest.refused());
-    }
-    Ok(())
+    Question::AtRest.ask(entries::are_at_rest(&file.slots))
 }

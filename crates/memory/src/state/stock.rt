@@ -87,10 +87,7 @@ impl Memory {
     pub fn ask_idle(&self) -> Result<(), Fault>
         ensures { said result ≡ asked 15 (is_idle self.now.chart) }
     {
-        if !self.is_idle() {
-            return Err(Question::Settled.refused());
-        }
-        Ok(())
+        Question::Settled.ask(self.is_idle())
     }
 
     // Is the map idle, the stock empty, and nothing outstanding?
@@ -98,10 +95,7 @@ impl Memory {
         ensures { said result ≡ asked 15 (is_idle self.now.chart && (length self.now.service + length self.now.unsettled == 0 && owed == 0)) }
     {
         self.ask_idle()?;
-        if self.service.len() + self.unsettled.len() != 0 || owed != 0 {
-            return Err(Question::Settled.refused());
-        }
-        Ok(())
+        Question::Settled.ask(self.service.len() + self.unsettled.len() == 0 && owed == 0)
     }
 
     // The volume is open, under this label and with these counts of free addresses.

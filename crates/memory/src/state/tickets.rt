@@ -49,10 +49,7 @@ impl Memory {
     pub fn ask_room(&self) -> Result<(), Fault>
         ensures { said result ≡ asked 13 (nat_lt (held self.now) 32) }
     {
-        if self.held() >= MOST_HELD {
-            return Err(Question::Room.refused());
-        }
-        Ok(())
+        Question::Room.ask(self.held() < MOST_HELD)
     }
 
     // Does the ticket hold the address?
@@ -133,9 +130,6 @@ impl Memory {
     fn ask_unused_tables(&self) -> Result<(), Fault>
         ensures { said result ≡ asked 14 (used self.now.files == 0 && used self.now.tickets == 0) }
     {
-        if count_used(&self.files) != 0 || count_used(&self.tickets) != 0 {
-            return Err(Question::AtRest.refused());
-        }
-        Ok(())
+        Question::AtRest.ask(count_used(&self.files) == 0 && count_used(&self.tickets) == 0)
     }
 }

@@ -50,9 +50,6 @@ impl<D: Drive> Volume<D> {
         requires { number < 3968 }
         ensures { said result ≡ asked 15 (not (pending (D.meaning self.now.drive) (8 + number))) }
     {
-        if self.drive.pending(FIRST_ENTRY + number) {
-            return Err(Question::Settled.refused());
-        }
-        Ok(())
+        Question::Settled.ask(!self.drive.pending(FIRST_ENTRY + number))
     }
 }

@@ -121,8 +121,5 @@ impl<D: Drive> Volume<D> {
 fn ask_record(page: &[u8]) -> Result<(), Fault>
     ensures { said result ≡ asked 1 (length page.now == 512) }
 {
-    if page.len() != RECORD {
-        return Err(Question::PageLength.refused());
-    }
-    Ok(())
+    Question::PageLength.ask(page.len() == RECORD)
 }

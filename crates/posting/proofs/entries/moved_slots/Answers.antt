@@ -1,4 +1,4 @@
-use Rattle.std.proofs.Common.{◌≡◌, length, refl, rules}
+use Rattle.std.proofs.Common.{◌≡◌, refl, rules}
 use borrow.Author.Tests.{tests}
 use Rattle.model.specs.declared.memory.Slot.TheVariants.{Empty}
 use Rattle.model.specs.Slots.{updated}
