@@ -1,4 +1,4 @@
-// The card: it completes each write in its post.
+// The card: it completes each write in its post, so it has no queue and is a type of its own.
 ghost use Rattle.std.specs.Prelude.{◌≡◌, ◌≤◌, min, [], length};
 
 use crate::asking::{ask_record, ask_room};

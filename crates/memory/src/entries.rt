@@ -1,4 +1,5 @@
-// The questions and the moves of entries: which one a file may take, and the slots of a file.
+// The questions and the moves of entries: which one a file may take, and the slots of a file. An entry goes by its number,
+// as in the plans; who calls has just put the question that bounds it.
 ghost use Rattle.std.specs.Prelude.{◌≡◌, ◌+◌, ◌<◌, not, ◌&&◌, map, OnOk, ◌==◌, nat_lt};
 ghost use Rattle.std.specs.List.{list_any};
 ghost use Rattle.drive.specs.Faults.{said};
@@ -139,7 +140,7 @@ pub fn load(shown: &Entry) -> [Slot; 64]
     shown.slots.map(loaded)
 }
 
-// No `From<u16>`: a number is a slot only where an entry has it.
+// What a slot is loaded as. No `From<u16>`: a number is a slot only where an entry has it.
 fn loaded(a: u16) -> Slot
     ensures { result ≡ loaded a }
 {
@@ -159,7 +160,7 @@ pub fn naming_live(meter: u32, slots: &[Slot; 64]) -> Entry
     }
 }
 
-// What an entry has for a slot.
+// What an entry has for a slot. No `From<Slot>`, as above.
 fn live_address(slot: Slot) -> u16
     ensures { result ≡ live_address slot }
 {

@@ -56,7 +56,8 @@ fn ask_make<'p, D: Drive>(
     Ok(record)
 }
 
-// Posts exactly the writes of a new volume, one after the other, each completed before the next.
+// Posts exactly the writes of a new volume, one after the other, each completed before the next. That nothing is
+// outstanding is asked here and in what follows: it is a fact of a moment, and each write makes it anew.
 fn write_volume<D: Drive>(
     drive: &mut D,
     id: u32,

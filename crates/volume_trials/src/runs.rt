@@ -24,7 +24,7 @@ fn granted<D: Drive>(volume: &mut Volume<D>, pass: &WorkingPass) -> Result<Optio
     }
 }
 
-// Polls until nothing is outstanding, and at least once.
+// Polls until nothing is outstanding, and at least once. Usage and the evening poll with bounds and answers of their own.
 fn settle<D: Drive>(volume: &mut Volume<D>) -> Result<(), Fail> {
     for _ in 0..8 {
         if volume.poll() == 0 {

@@ -1,4 +1,5 @@
-// The files in memory, and their slots.
+// The files in memory, and their slots. A file and a slot go by their numbers, as in the plans; who calls has just put the
+// question that bounds the number.
 ghost use Rattle.std.specs.Prelude.{◌≡◌, ◌<◌, [], ◌∷◌, ◌++◌, Some, None, slice_set};
 ghost use Rattle.memory.specs.View.{came_to, UnlessAcceptedSame};
 ghost use Rattle.drive.specs.Faults.{said};

@@ -31,7 +31,7 @@ impl<D: Drive> Volume<D> {
     }
 }
 
-// The same answer, with the address as a token.
+// The same answer, with the address as a token. No `From`: it becomes one only here, where the call grants it.
 fn granted(moved: Withdrawn<Ticketed>) -> Withdrawn<Grant>
     ensures { withdrawn_reply (λ h. h.ticket) (λ h. h.address) result ≡ withdrawn_reply (λ h. h.ticket) (λ h. h.address) moved }
 {
