@@ -1,18 +1,17 @@
 use Rattle.std.proofs.Common.{◌-◌, slice_get, length, set, refl, ap, ◌∙◌, ap₂}
-use Rattle.std.proofs.lemmas.Result.{err_from_is_err_and}
 use Rattle.model.specs.Calls.{Volume}
 use Rattle.model.specs.declared.memory.MapState.TheVariants.{Writing}
 use Rattle.model.specs.Memory.{Memory, with_stock}
 use Rattle.model.specs.Shown.{bits_shown}
 use Rattle.model.specs.Stock.{given, staying}
-use Rattle.model.proofs.CarriedLaws.{posting, post_refused}
+use Rattle.model.proofs.CarriedLaws.{posting}
 use Rattle.volumes.specs.Volumes.{volume_of, rules}
 use Rattle.volumes.proofs.Mapping.{first_oldest, section_given}
+use Rattle.volumes.proofs.Carrying.{exit_post_refused}
 use Rattle.volumes.proofs.volume.Volume.give.Goals as goal
 
 pub returns-in_err-post_section : goal.returns-in_err-post_section
 returns-in_err-post_section g c reply =
-    let p = err_from_is_err_and c.from_residual.result c.from_residual.ensures.1 in
     let v : Volume = volume_of g.D.Drive.meaning c.args.self.now in
     let r = rules g.D.Of.Kind.DEPTH g.D.Of.Kind.LIFE in
     let k = c.covering-k.result in
@@ -24,8 +23,7 @@ returns-in_err-post_section g c reply =
     let stays = c.part-given.ensures.staying ∙ ap (staying k c.saturating_sub-most.result) service in
     let plan = section_given r v.drive v.memory c.args.left reply _ _ _ _ _ _ _ found c.covering-k.ensures.value amount shown gives c.give_back.ensures stays in
     let kept = c.in_err-post_section.ensures in
-    let same = ap₂ {C = Volume} (λ d x. record { drive = d; memory = x }) kept.after kept.same in
-    rw (p.1, p.2) (post_refused r v _ _ _ _ _ _ _ plan kept.answer refl same)
+    exit_post_refused _ _ _ r _ _ _ _ c.from_residual.ensures.1 plan refl kept.answer kept.after kept.same
 
 pub returns : goal.returns
 returns g c reply =

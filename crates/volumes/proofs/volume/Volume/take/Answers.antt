@@ -1,17 +1,16 @@
 use Rattle.std.proofs.Common.{◌≡◌, ◌+◌, ◌-◌, ◌≤◌, ◌++◌, length, set, sym, refl, ap, ◌∙◌, subst, ap₂, arith}
-use Rattle.std.proofs.lemmas.Result.{err_from_is_err_and}
 use Rattle.model.specs.Calls.{Volume}
 use Rattle.model.specs.declared.memory.MapState.TheVariants.{Writing}
 use Rattle.model.specs.Memory.{Memory, held, with_stock}
 use Rattle.model.specs.Shown.{bits_shown}
-use Rattle.model.proofs.CarriedLaws.{posting, post_refused}
+use Rattle.model.proofs.CarriedLaws.{posting}
 use Rattle.volumes.specs.Volumes.{volume_of, rules}
 use Rattle.volumes.proofs.Mapping.{used_within, section_taken}
+use Rattle.volumes.proofs.Carrying.{exit_post_refused}
 use Rattle.volumes.proofs.volume.Volume.take.Goals as goal
 
 pub returns-in_err-post_section : goal.returns-in_err-post_section
 returns-in_err-post_section g c =
-    let p = err_from_is_err_and c.from_residual.result c.from_residual.ensures.1 in
     let v : Volume = volume_of g.D.Drive.meaning c.args.self.now in
     let r = rules g.D.Of.Kind.DEPTH g.D.Of.Kind.LIFE in
     let takes = c.take_lowest-taken.ensures in
@@ -19,8 +18,7 @@ returns-in_err-post_section g c =
     let shown = c.shown_section-section.ensures ∙ (λ j. bits_shown (g.D.Drive.meaning (c.records.ensures.same j)) (c.records.ensures.label j).id (c.records.ensures.label j).entries c.in-Some.k) in
     let plan = section_taken r v.drive v.memory _ _ _ _ _ c.in-Some.ensures.lowest (c.wanted-most.ensures ∙ ap (λ n. 16 - n) service) shown takes.left takes.taken in
     let kept = c.in_err-post_section.ensures in
-    let same = ap₂ {C = Volume} (λ d x. record { drive = d; memory = x }) kept.after kept.same in
-    rw (p.1, p.2) (post_refused r v _ _ _ _ _ _ _ plan kept.answer refl same)
+    exit_post_refused _ _ _ r _ _ _ _ c.from_residual.ensures.1 plan refl kept.answer kept.after kept.same
 
 pub take-requires : goal.take-requires
 take-requires g c =
