@@ -17,8 +17,8 @@ use Rattle.model.specs.declared.memory.Slot.TheVariants.{Empty}
 use Rattle.model.specs.Plans.{slot_of, and_then, entry_when}
 use Rattle.model.specs.Histories.{Fitting}
 use Rattle.model.specs.Memory.{Memory, held}
-use Rattle.model.specs.Outcomes.{Reply, Outcome, refuse, Rules, post, keep}
-use Rattle.model.proofs.CarriedLaws.{carried, refusing, keeping, posting_page, post_refused_page}
+use Rattle.model.specs.Outcomes.{Reply, Outcome, refuse, ask, Rules, post, keep}
+use Rattle.model.proofs.CarriedLaws.{asked_yes, carried, refusing, keeping, posting_page, post_refused_page}
 
 -- a volume is as it was, where its drive and its memory are
 pub volume_same : {v u : Volume} → u.drive ≡ v.drive → u.memory ≡ v.memory → u ≡ v
@@ -74,6 +74,10 @@ page_long n e = asked_same 1 n 512 e
 -- the tally has a byte for each record, where question 5 is answered yes
 pub tally_long : (n t : ℕ) → Ok tt ≡ asked 5 (eqb n t) → n ≡ t
 tally_long n t e = asked_same 5 n t e
+
+-- a plan whose page is long enough and whose phase fits goes on
+pub page_and_phase : (n : ℕ) (b : Bool) (o : Outcome) → Ok tt ≡ asked 1 (eqb n 512) → Ok tt ≡ asked 2 b → ask 1 (eqb n 512) (ask 2 b o) ≡ o
+page_and_phase n b o page phase = asked_yes _ _ _ page ∙ asked_yes _ _ _ phase
 
 -- question 9, of an entry that was read as it shows
 pub asked_of_shown : (t : Entry → Bool) (a : ℕ) (q shows : Option Entry) (r : Result Entry Refusal) → r ≡ or_refused_at 9 a (entry_when t q) → q ≡ shows → r ≡ or_refused_at 9 a (entry_when t shows)

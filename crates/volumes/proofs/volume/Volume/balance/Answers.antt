@@ -11,8 +11,7 @@ use Rattle.volumes.proofs.volume.Volume.balance.Goals as goal
 
 pub returns-in_err-page : goal.returns-in_err-page
 unfolding plan balance_plan
-returns-in_err-page g c =
-    record { carried = call_refused _ _ _ tt c.from_residual.ensures.1 (asked_no _ _ _ _ c.in_err-page.ensures); zero = search found }
+returns-in_err-page g c = record { carried = call_refused _ _ _ tt c.from_residual.ensures.1 (asked_no _ _ _ _ c.in_err-page.ensures); zero = search found }
 
 pub returns-in_err-ask_phase : goal.returns-in_err-ask_phase
 unfolding plan balance_plan

@@ -11,8 +11,7 @@ use Rattle.volumes.proofs.volume.Volume.drain.Goals as goal
 
 pub returns-in_err-page : goal.returns-in_err-page
 unfolding plan drain_plan
-returns-in_err-page g c =
-    record { carried = call_refused _ _ _ tt c.from_residual.ensures.1 (asked_no _ _ _ _ c.in_err-page.ensures); zero = search rules }
+returns-in_err-page g c = record { carried = call_refused _ _ _ tt c.from_residual.ensures.1 (asked_no _ _ _ _ c.in_err-page.ensures); zero = search rules }
 
 pub returns-in_err-ask_drain : goal.returns-in_err-ask_drain
 unfolding plan drain_plan

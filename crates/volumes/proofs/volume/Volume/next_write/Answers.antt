@@ -10,8 +10,7 @@ use Rattle.volumes.proofs.Carrying.{exit_is, tally_long}
 use Rattle.volumes.proofs.volume.Volume.next_write.Goals as goal
 
 pub returns-in_err-records : goal.returns-in_err-records
-returns-in_err-records g c =
-    λ r v. rw (exit_is _ _ c.from_residual.ensures.1) (needed_none _ _ _ _ c.in_err-records.ensures.label)
+returns-in_err-records g c = λ r v. rw (exit_is _ _ c.from_residual.ensures.1) (needed_none _ _ _ _ c.in_err-records.ensures.label)
 
 pub returns-in_err-ask_tally : goal.returns-in_err-ask_tally
 returns-in_err-ask_tally g c =

@@ -2,14 +2,12 @@ use Rattle.std.proofs.Common.{refl, ◌∙◌}
 use Rattle.model.specs.Calls.{plan}
 use Rattle.model.specs.Mending.{salvage_plan}
 use Rattle.model.proofs.CarriedLaws.{asked_yes, asked_no}
-use Rattle.volumes.specs.Volumes.{rules}
-use Rattle.volumes.proofs.Carrying.{call_refused, call_post_refused, call_posted}
+use Rattle.volumes.proofs.Carrying.{page_and_phase, call_refused, call_post_refused, call_posted}
 use Rattle.volumes.proofs.volume.Volume.post_mend.Goals as goal
 
 pub returns-in_err-page : goal.returns-in_err-page
 unfolding plan salvage_plan
-returns-in_err-page g c =
-    call_refused _ _ _ tt c.from_residual.ensures.1 (asked_no _ _ _ _ c.in_err-page.ensures)
+returns-in_err-page g c = call_refused _ _ _ tt c.from_residual.ensures.1 (asked_no _ _ _ _ c.in_err-page.ensures)
 
 pub returns-in_err-ask_phase : goal.returns-in_err-ask_phase
 unfolding plan salvage_plan
@@ -19,23 +17,19 @@ returns-in_err-ask_phase g c =
 pub returns-in_err-answer : goal.returns-in_err-answer
 unfolding plan salvage_plan
 returns-in_err-answer g c =
-    let v = c.args.self.now.memory in
     call_refused _ _ _ tt c.from_residual-in_err-answer.ensures.1
-    (asked_yes _ _ _ c.in_ok-page.ensures ∙ (asked_yes _ _ _ c.in_ok-ask_phase.ensures ∙ c.in_err-answer.ensures (rules g.D.Of.Kind.DEPTH g.D.Of.Kind.LIFE) v))
+    (page_and_phase _ _ _ c.in_ok-page.ensures c.in_ok-ask_phase.ensures ∙ c.in_err-answer.ensures _ _)
 
 pub returns-in_err-post : goal.returns-in_err-post
 unfolding plan salvage_plan
 returns-in_err-post g c =
-    let v = c.args.self.now.memory in
     call_post_refused _ _ _ _ _ _ _ tt c.from_residual-in_err-post.ensures.1
-    (asked_yes _ _ _ c.in_ok-page.ensures ∙ (asked_yes _ _ _ c.in_ok-ask_phase.ensures ∙ c.in_ok-answer.ensures (rules g.D.Of.Kind.DEPTH g.D.Of.Kind.LIFE) v))
+    (page_and_phase _ _ _ c.in_ok-page.ensures c.in_ok-ask_phase.ensures ∙ c.in_ok-answer.ensures _ _)
     refl c.in_err-post.ensures.answer c.in_err-post.ensures.after refl
 
 pub returns : goal.returns
 unfolding plan salvage_plan
 returns g c =
     let posted = c.in_ok-post.ensures in
-    let v = c.args.self.now.memory in
-    call_posted _ _ tt
-    (asked_yes _ _ _ c.in_ok-page.ensures ∙ (asked_yes _ _ _ c.in_ok-ask_phase.ensures ∙ c.in_ok-answer.ensures (rules g.D.Of.Kind.DEPTH g.D.Of.Kind.LIFE) v))
+    call_posted _ _ tt (page_and_phase _ _ _ c.in_ok-page.ensures c.in_ok-ask_phase.ensures ∙ c.in_ok-answer.ensures _ _)
     refl posted.answer refl posted.after

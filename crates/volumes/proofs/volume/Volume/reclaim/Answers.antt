@@ -7,15 +7,12 @@ use Rattle.volumes.proofs.volume.Volume.reclaim.Goals as goal
 
 pub returns-in_err-ask_phase : goal.returns-in_err-ask_phase
 unfolding plan reclaim_plan
-returns-in_err-ask_phase g c =
-    call_refused _ _ _ tt c.from_residual.ensures.1
-    (asked_no _ _ _ _ c.in_err-ask_phase.ensures)
+returns-in_err-ask_phase g c = call_refused _ _ _ tt c.from_residual.ensures.1 (asked_no _ _ _ _ c.in_err-ask_phase.ensures)
 
 pub returns-in_err-used : goal.returns-in_err-used
 unfolding plan reclaim_plan
 returns-in_err-used g c =
-    call_refused _ _ _ tt c.from_residual-in_err-used.ensures.1
-    (asked_yes _ _ _ c.in_ok-ask_phase.ensures ∙ needed_none _ _ _ _ c.in_err-used.ensures.found)
+    call_refused _ _ _ tt c.from_residual-in_err-used.ensures.1 (asked_yes _ _ _ c.in_ok-ask_phase.ensures ∙ needed_none _ _ _ _ c.in_err-used.ensures.found)
 
 pub returns-in_err-address : goal.returns-in_err-address
 unfolding plan reclaim_plan
@@ -40,7 +37,6 @@ returns-in_err-ask_settled g c =
 pub returns : goal.returns
 unfolding plan reclaim_plan
 returns g c =
-    call_kept tt
-    (asked_yes _ _ _ c.in_ok-ask_phase.ensures ∙ (needed_some _ _ _ _ c.in_ok-used.ensures.found ∙ (needed_some _ _ _ _ c.in_ok-address.ensures
+    call_kept tt (asked_yes _ _ _ c.in_ok-ask_phase.ensures ∙ (needed_some _ _ _ _ c.in_ok-used.ensures.found ∙ (needed_some _ _ _ _ c.in_ok-address.ensures
     ∙ (asked_yes _ _ _ c.in_ok-ask_room.ensures ∙ asked_yes _ _ _ c.in_ok-ask_settled.ensures))))
     (c.reclaim.ensures _ (some_of 6 _ _ c.in_ok-used.ensures.found)) refl
