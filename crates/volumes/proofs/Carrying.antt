@@ -1,20 +1,17 @@
 -- Steps that several calls share on the way to their plans.
-use Rattle.std.proofs.Common.{◌≡◌, ℕ, ◌<◌, Bool, cond, eqb, ltb, List, length, get_or, Some, None, Ok, Err, IsErrAnd, Option, Result, refl, ap, ◌∙◌, ap₂, inl, inr, arith, w8, Fits}
+use Rattle.std.proofs.Common.{◌≡◌, ℕ, ◌<◌, Bool, eqb, List, length, get_or, Ok, Err, IsErrAnd, Option, Result, refl, ap, ◌∙◌, ap₂, inl, inr, arith, w8, Fits}
 use Rattle.std.specs.List.{AllByRecursion}
 use Rattle.std.proofs.ByRecursion.{All-from_get_or}
-use Rattle.std.proofs.lemmas.Bool.{cases_eq, cases_lt, le-ltb, ne_eqb}
+use Rattle.std.proofs.lemmas.Bool.{cases_eq, ne_eqb}
 use Rattle.drive.specs.declared.fault.Fault.{Fault}
 use Rattle.drive.specs.Answers.{post_answer}
-use Rattle.drive.specs.Faults.{Refusal, told, refusal, no_record}
+use Rattle.drive.specs.Faults.{Refusal, told}
 use Rattle.drive.specs.Meaning.{Write, posted, complete}
 use Rattle.record.specs.declared.entry.Entry.{Entry}
 use Rattle.memory.specs.View.{came_to, UnlessAcceptedSame}
 use Rattle.model.specs.Calls.{Call, plan, Volume}
-use Rattle.model.specs.Carried.{CarriesOut, ComesTo, asked, or_refused, or_refused_at, replied}
-use Rattle.model.specs.declared.memory.File.{File}
-use Rattle.model.specs.declared.memory.Slot.{Slot}
-use Rattle.model.specs.declared.memory.Slot.TheVariants.{Empty}
-use Rattle.model.specs.Plans.{slot_of, and_then, entry_when}
+use Rattle.model.specs.Carried.{CarriesOut, ComesTo, asked, or_refused_at, replied}
+use Rattle.model.specs.Plans.{entry_when}
 use Rattle.model.specs.Histories.{Fitting}
 use Rattle.model.specs.Memory.{Memory, held}
 use Rattle.model.specs.Outcomes.{Reply, Outcome, refuse, ask, Rules, post, keep}
@@ -36,26 +33,6 @@ remembered g c v u reply (Err f) fits is same drive =
 -- the bytes of a program are below 256
 pub bytes_fit : (bs : List ℕ) → ((i : ℕ) → Fits w8 (get_or bs i 0)) → AllByRecursion (λ b. b < 256) bs
 bytes_fit bs h = All-from_get_or (λ b. b < 256) bs 0 (λ i _. (h i).fits)
-
--- a slot of a file is below 64
-pub slot_within : {X : Type 0} (n : ℕ) (x : File) (p : ℕ) (k : Slot → Option X) (y : X) → Ok y ≡ or_refused n (and_then (slot_of x p) k) → p < 64
-slot_within n x p k y e =
-    elim (cases_lt p 64) [
-      | inl h ↦ h
-      | inr h ↦
-          let past : or_refused n (and_then (slot_of x p) k) ≡ Err (refusal n no_record) = ap (λ b. or_refused n (and_then (cond b (Some (get_or x.slots p Empty)) None) k)) (le-ltb p 64 h) in
-          let z : ◌≡◌ {A = ℕ} 0 1 = cc in absurd (omega arith)
-    ]
-
--- there is room for one more address, where question 13 is answered yes
-pub room_within : (v : Memory) → Ok tt ≡ asked 13 (ltb (held v) 32) → held v < 32
-room_within v e =
-    elim (cases_lt (held v) 32) [
-      | inl h ↦ h
-      | inr h ↦
-          let none = ap (asked 13) (le-ltb (held v) 32 h) in
-          let z : ◌≡◌ {A = ℕ} 0 1 = cc in absurd (omega arith)
-    ]
 
 -- two numbers are the same, where a question that asks that is answered yes
 asked_same : (q n k : ℕ) → Ok tt ≡ asked q (eqb n k) → n ≡ k
@@ -90,7 +67,7 @@ pub exit_is : {X : Type 0} (r : Result X Fault) (f : Fault) → IsErrAnd r (λ e
 exit_is (Ok x) f exit = absurd exit
 exit_is (Err e) f exit = ap {B = Result _ Fault} (λ y. Err y) exit
 
--- and tells of it
+-- what the exit of a `?` tells is that fault
 pub exit_tells : {X : Type 0} (reply : X → Reply) (r : Result X Fault) (f : Fault) → IsErrAnd r (λ e. e ≡ f) → replied reply r ≡ Err (told f)
 exit_tells reply r f exit = ap (λ x. replied reply x) (exit_is r f exit)
 
@@ -117,6 +94,10 @@ pub call_post_refused : {X : Type 0} {g : Rules} {c : Call} {v u : Volume} (repl
     → Err (told f) ≡ post_answer g.depth g.life v.drive w.at (length page) → u.drive ≡ v.drive → u.memory ≡ v.memory → CarriesOut g c v u (replied reply r)
 call_post_refused reply r f a x w page fits exit is holds no' drive memory =
     carried _ _ _ _ _ fits (exit_post_refused reply r f _ a x w page exit is holds no' drive memory)
+
+-- the call is carried out, where its plan leads to an outcome that was come to
+pub call_leads : {g : Rules} {c : Call} {v u : Volume} {o : Outcome} {a b : Result Reply Refusal} → Fitting c → plan g c v.drive v.memory ≡ o → b ≡ a → ComesTo o v u a → CarriesOut g c v u b
+call_leads fits leads tells done = carried _ _ _ _ _ fits (rw (leads, tells) done)
 
 -- ---- calls that are accepted
 

@@ -1,19 +1,19 @@
 -- What the calls on the map come to.
-use Rattle.std.proofs.Common.{MatchOption, ◌≡◌, ℕ, ◌-◌, ◌<◌, ◌≤◌, Bool, true, false, eqb, List, [], ◌∷◌, ◌++◌, length, Some, None, Ok, Err, Option, Result, slice_get, sym, refl, ap, ◌∙◌, arith}
+use Rattle.std.proofs.Common.{MatchOption, ◌≡◌, ℕ, ◌-◌, ◌<◌, ◌≤◌, Bool, true, false, eqb, List, [], ◌∷◌, ◌++◌, length, Some, None, Ok, Err, Option, slice_get, sym, refl, ap, ◌∙◌, arith}
 use Rattle.std.proofs.lemmas.Bool.{lt-ltb, le-ltb, cond-true, cond-false}
 use Rattle.drive.specs.Answers.{and_then}
 use Rattle.drive.specs.Faults.{Refusal}
 use Rattle.drive.specs.Meaning.{Meaning}
 use Rattle.record.specs.declared.label.Label.{Label}
 use Rattle.record.specs.declared.label.LabelState.TheVariants.{InUse}
-use Rattle.model.specs.Calls.{Volume}
-use Rattle.model.specs.Carried.{ComesTo, asked}
+use Rattle.model.specs.Carried.{asked}
 use Rattle.model.specs.Memory.{Memory, used}
 use Rattle.volumes.specs.Volumes.{section_or}
 use Rattle.model.specs.Outcomes.{Reply, section, busy, quiet, Outcome, refuse, ask, Rules, keep}
 use Rattle.model.specs.Plans.{kept_label, is_open, is_idle, write_section, take_from, taking, give_oldest, giving, balance_plan}
 use Rattle.model.specs.Shown.{bits_shown}
 use Rattle.model.specs.Stock.{cover, lowest, all_marked, given, staying, counting_free, oldest}
+use Rattle.volumes.proofs.Carrying.{page_and_phase}
 use Rattle.model.proofs.CarriedLaws.{asked_yes, asked_no}
 
 -- ---- how much is held
@@ -56,14 +56,14 @@ section_given g meaning d e l v n a k most r first service shown back gives stay
 pub balance_busy : (g : Rules) (n : ℕ) (m : Meaning) (v : Memory) → Ok tt ≡ asked 1 (eqb n 512) → Ok tt ≡ asked 2 (is_open v.phase) → false ≡ is_idle v.chart
     → balance_plan g n m v ≡ keep busy v
 unfolding balance_plan
-balance_busy g n m v page open' idle = asked_yes _ _ _ page ∙ (asked_yes _ _ _ open' ∙ cond-false _ _ _ (sym idle))
+balance_busy g n m v page open' idle = page_and_phase _ _ _ page open' ∙ cond-false _ _ _ (sym idle)
 
 pub balance_takes : (g : Rules) (n : ℕ) (m : Meaning) (v : Memory) (service : List ℕ) → Ok tt ≡ asked 1 (eqb n 512) → Ok tt ≡ asked 2 (is_open v.phase) → true ≡ is_idle v.chart
     → service ≡ v.service → length service < 8 → balance_plan g n m v ≡ take_from g m v (counting_free 0 v.counts)
 unfolding balance_plan
 balance_takes g n m v service page open' idle serves few =
     let few' : length v.service < 8 = rw (sym serves) few in
-    asked_yes _ _ _ page ∙ (asked_yes _ _ _ open' ∙ (cond-true _ _ _ (sym idle) ∙ cond-true _ _ _ (lt-ltb (length v.service) 8 few')))
+    page_and_phase _ _ _ page open' ∙ (cond-true _ _ _ (sym idle) ∙ cond-true _ _ _ (lt-ltb (length v.service) 8 few'))
 
 pub balance_gives : (g : Rules) (n : ℕ) (m : Meaning) (v : Memory) (service : List ℕ) → Ok tt ≡ asked 1 (eqb n 512) → Ok tt ≡ asked 2 (is_open v.phase) → true ≡ is_idle v.chart
     → service ≡ v.service → 24 < length service → balance_plan g n m v ≡ give_oldest g m v 16 quiet (oldest v.service)
@@ -71,8 +71,8 @@ unfolding balance_plan
 balance_gives g n m v service page open' idle serves many =
     let many' : 24 < length v.service = rw (sym serves) many in
     let some' : 8 ≤ length v.service = omega arith in
-    asked_yes _ _ _ page
-    ∙ (asked_yes _ _ _ open' ∙ (cond-true _ _ _ (sym idle) ∙ (cond-false _ _ _ (le-ltb (length v.service) 8 some') ∙ cond-true _ _ _ (lt-ltb 24 (length v.service) many'))))
+    page_and_phase _ _ _ page open'
+    ∙ (cond-true _ _ _ (sym idle) ∙ (cond-false _ _ _ (le-ltb (length v.service) 8 some') ∙ cond-true _ _ _ (lt-ltb 24 (length v.service) many')))
 
 pub balance_quiet : (g : Rules) (n : ℕ) (m : Meaning) (v : Memory) (service : List ℕ) → Ok tt ≡ asked 1 (eqb n 512) → Ok tt ≡ asked 2 (is_open v.phase) → true ≡ is_idle v.chart
     → service ≡ v.service → 8 ≤ length service → length service ≤ 24 → balance_plan g n m v ≡ keep quiet v
@@ -80,8 +80,8 @@ unfolding balance_plan
 balance_quiet g n m v service page open' idle serves some' most =
     let some'' : 8 ≤ length v.service = rw (sym serves) some' in
     let most' : length v.service ≤ 24 = rw (sym serves) most in
-    asked_yes _ _ _ page
-    ∙ (asked_yes _ _ _ open' ∙ (cond-true _ _ _ (sym idle) ∙ (cond-false _ _ _ (le-ltb (length v.service) 8 some'') ∙ cond-false _ _ _ (le-ltb 24 (length v.service) most'))))
+    page_and_phase _ _ _ page open'
+    ∙ (cond-true _ _ _ (sym idle) ∙ (cond-false _ _ _ (le-ltb (length v.service) 8 some'') ∙ cond-false _ _ _ (le-ltb 24 (length v.service) most')))
 
 -- two questions as one answer
 pub both_yes : (i j : ℕ) (b d : Bool) (o : Outcome) → Ok tt ≡ and_then (asked i b) (asked j d) → ask i b (ask j d o) ≡ o
@@ -93,10 +93,6 @@ pub one_no : (i j : ℕ) (b d : Bool) (o : Outcome) (f : Refusal) → Err f ≡ 
 unfolding ask
 one_no i j true d o f e = asked_no j d o f e
 one_no i j false d o f e = cc
-
--- what comes to an outcome comes to the plan that leads there
-pub at_plan : (p o : Outcome) (v u : Volume) (a b : Result Reply Refusal) → p ≡ o → b ≡ a → ComesTo o v u a → ComesTo p v u b
-at_plan p o v u a b leads tells done = rw (leads, tells) done
 
 -- what a call tells that posted a section, or else did nothing
 pub section_reply : {X : Type 0} (reply : X → Reply) (otherwise : X) (of : ℕ → X) (r : Reply) (o : Option ℕ) (x : X) → MatchOption o (x ≡ otherwise) (λ k. x ≡ of k)

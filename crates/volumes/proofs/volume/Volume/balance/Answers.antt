@@ -4,9 +4,9 @@ use Rattle.model.specs.Outcomes.{quiet}
 use Rattle.model.specs.Replies.{balanced_reply}
 use Rattle.model.specs.declared.answers.Balanced.TheVariants.{Section, Quiet}
 use Rattle.model.specs.Plans.{balance_plan}
-use Rattle.model.proofs.CarriedLaws.{asked_yes, asked_no, carried}
-use Rattle.volumes.proofs.Mapping.{section_reply, balance_busy, balance_takes, balance_gives, balance_quiet, at_plan}
-use Rattle.volumes.proofs.Carrying.{exit_tells, call_refused, call_kept}
+use Rattle.model.proofs.CarriedLaws.{asked_yes, asked_no}
+use Rattle.volumes.proofs.Mapping.{section_reply, balance_busy, balance_takes, balance_gives, balance_quiet}
+use Rattle.volumes.proofs.Carrying.{call_leads, exit_tells, call_refused, call_kept}
 use Rattle.volumes.proofs.volume.Volume.balance.Goals as goal
 
 pub returns-in_err-page : goal.returns-in_err-page
@@ -28,9 +28,9 @@ pub returns-in_err-posted : goal.returns-in_err-posted
 unfolding plan
 returns-in_err-posted g c =
     record {
-      carried = carried _ _ _ _ _ tt (at_plan _ _ _ _ _ _
+      carried = call_leads tt
           (balance_takes _ _ _ c.args.self.now.memory _ c.in_ok-page.ensures c.in_ok-ask_phase.ensures c.if-not-is_idle.ensures c.service-in_service.ensures.value c.if-in_service-lt-FEW.true)
-          (exit_tells _ _ _ c.from_residual-in_err-posted.ensures.1) c.in_err-posted.ensures);
+          (exit_tells _ _ _ c.from_residual-in_err-posted.ensures.1) c.in_err-posted.ensures;
       zero = search found;
     }
 
@@ -38,9 +38,9 @@ pub returns-then-in_service-lt-FEW : goal.returns-then-in_service-lt-FEW
 unfolding plan
 returns-then-in_service-lt-FEW g c =
     record {
-      carried = carried _ _ _ _ _ tt (at_plan _ _ _ _ _ _
+      carried = call_leads tt
           (balance_takes _ _ _ c.args.self.now.memory _ c.in_ok-page.ensures c.in_ok-ask_phase.ensures c.if-not-is_idle.ensures c.service-in_service.ensures.value c.if-in_service-lt-FEW.true)
-          (ap Ok (section_reply balanced_reply Quiet Section quiet _ _ c.map_or.ensures refl (λ k. refl))) c.in_ok-posted.ensures);
+          (ap Ok (section_reply balanced_reply Quiet Section quiet _ _ c.map_or.ensures refl (λ k. refl))) c.in_ok-posted.ensures;
       zero = search found;
     }
 
@@ -48,9 +48,9 @@ pub returns-in_err-posted-2 : goal.returns-in_err-posted-2
 unfolding plan
 returns-in_err-posted-2 g c =
     record {
-      carried = carried _ _ _ _ _ tt (at_plan _ _ _ _ _ _
+      carried = call_leads tt
           (balance_gives _ _ _ c.args.self.now.memory _ c.in_ok-page.ensures c.in_ok-ask_phase.ensures c.if-not-is_idle.ensures c.service-in_service.ensures.value c.if-in_service-gt-MANY.true)
-          (exit_tells _ _ _ c.from_residual-in_err-posted-2.ensures.1) (c.in_err-posted-2.ensures quiet));
+          (exit_tells _ _ _ c.from_residual-in_err-posted-2.ensures.1) (c.in_err-posted-2.ensures quiet);
       zero = search found;
     }
 
@@ -58,13 +58,18 @@ pub returns-then-in_service-gt-MANY : goal.returns-then-in_service-gt-MANY
 unfolding plan
 returns-then-in_service-gt-MANY g c =
     record {
-      carried = carried _ _ _ _ _ tt (at_plan _ _ _ _ _ _
+      carried = call_leads tt
           (balance_gives _ _ _ c.args.self.now.memory _ c.in_ok-page.ensures c.in_ok-ask_phase.ensures c.if-not-is_idle.ensures c.service-in_service.ensures.value c.if-in_service-gt-MANY.true)
-          (ap Ok (section_reply balanced_reply Quiet Section quiet _ _ c.map_or-then-in_service-gt-MANY.ensures refl (λ k. refl))) (c.in_ok-posted-2.ensures quiet));
+          (ap Ok (section_reply balanced_reply Quiet Section quiet _ _ c.map_or-then-in_service-gt-MANY.ensures refl (λ k. refl))) (c.in_ok-posted-2.ensures quiet);
       zero = search found;
     }
 
 pub returns : goal.returns
 unfolding plan
 returns g c =
-    record { carried = call_kept tt (balance_quiet _ _ _ c.args.self.now.memory _ c.in_ok-page.ensures c.in_ok-ask_phase.ensures c.if-not-is_idle.ensures c.service-in_service.ensures.value c.if-in_service-lt-FEW.false c.if-in_service-gt-MANY.false) refl refl; zero = search found }
+    record {
+      carried = call_kept tt
+          (balance_quiet _ _ _ c.args.self.now.memory _ c.in_ok-page.ensures c.in_ok-ask_phase.ensures c.if-not-is_idle.ensures c.service-in_service.ensures.value c.if-in_service-lt-FEW.false c.if-in_service-gt-MANY.false)
+          refl refl;
+      zero = search found;
+    }

@@ -1,9 +1,9 @@
 use Rattle.std.proofs.Common.{ap₂, refl, ◌∙◌, arith}
 use Rattle.model.specs.Calls.{plan}
 use Rattle.model.specs.Plans.{create_plan}
+use Rattle.model.specs.Volume.{entry_bytes}
 use Rattle.model.proofs.CarriedLaws.{asked_yes, asked_no, needed_at_some, needed_at_none}
 use Rattle.volumes.proofs.Carrying.{page_and_phase, call_refused, call_post_refused, call_posted, asked_of_shown}
-use Rattle.model.specs.Volume.{entry_bytes}
 use Rattle.volumes.proofs.volume.Volume.create_entry.Goals as goal
 
 pub returns-in_err-page : goal.returns-in_err-page

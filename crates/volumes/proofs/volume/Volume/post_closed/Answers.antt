@@ -3,8 +3,8 @@ use Rattle.model.specs.Calls.{plan}
 use Rattle.model.specs.Carried.{asked}
 use Rattle.model.specs.Memory.{Memory}
 use Rattle.model.specs.Plans.{finish_plan, is_idle}
-use Rattle.model.proofs.CarriedLaws.{asked_yes, asked_no}
 use Rattle.model.specs.Volume.{label_bytes}
+use Rattle.model.proofs.CarriedLaws.{asked_yes, asked_no}
 use Rattle.volumes.proofs.Carrying.{page_and_phase, call_refused, call_post_refused, call_posted}
 use Rattle.volumes.proofs.volume.Volume.post_closed.Goals as goal
 

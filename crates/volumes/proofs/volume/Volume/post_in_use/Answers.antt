@@ -6,8 +6,8 @@ use Rattle.model.specs.Shown.{with_state, bits_shown}
 use Rattle.record.specs.Sections.{free_count}
 use Rattle.record.specs.declared.label.Label.{Label}
 use Rattle.record.specs.declared.label.LabelState.TheVariants.{InUse}
-use Rattle.model.proofs.CarriedLaws.{asked_yes, asked_no, needed_some, needed_none}
 use Rattle.model.specs.Volume.{label_bytes}
+use Rattle.model.proofs.CarriedLaws.{asked_yes, asked_no, needed_some, needed_none}
 use Rattle.volumes.proofs.Carrying.{page_and_phase, call_refused, call_post_refused, call_posted}
 use Rattle.volumes.proofs.volume.Volume.post_in_use.Goals as goal
 

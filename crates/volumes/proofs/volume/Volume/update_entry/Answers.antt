@@ -8,9 +8,9 @@ use Rattle.model.specs.Calls.{plan}
 use Rattle.model.specs.Memory.{Memory, with_file}
 use Rattle.model.specs.Slots.{with_slots, updated, live_address}
 use Rattle.model.specs.Plans.{update_plan}
+use Rattle.model.specs.Volume.{entry_bytes}
 use Rattle.model.proofs.CarriedLaws.{asked_yes, asked_no, needed_some, needed_none, some_of}
 use Rattle.volumes.proofs.Carrying.{page_and_phase, call_refused, call_post_refused, call_posted}
-use Rattle.model.specs.Volume.{entry_bytes}
 use Rattle.volumes.proofs.volume.Volume.update_entry.Goals as goal
 
 pub returns-in_err-page : goal.returns-in_err-page
