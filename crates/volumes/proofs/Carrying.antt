@@ -13,7 +13,7 @@ use Rattle.model.specs.Calls.{Call, plan, Volume}
 use Rattle.model.specs.Carried.{CarriesOut, ComesTo, asked, or_refused_at, replied}
 use Rattle.model.specs.Plans.{entry_when}
 use Rattle.model.specs.Histories.{Fitting}
-use Rattle.model.specs.Memory.{Memory, held}
+use Rattle.model.specs.Memory.{Memory}
 use Rattle.model.specs.Outcomes.{Reply, Outcome, refuse, ask, Rules, post, keep}
 use Rattle.model.proofs.CarriedLaws.{asked_yes, carried, refusing, keeping, posting_page, post_refused_page}
 
@@ -77,11 +77,11 @@ pub exit_refused : {X : Type 0} {o : Outcome} {v : Volume} (reply : X → Reply)
 exit_refused reply r f exit is = refusing _ _ _ _ _ is (exit_tells reply r f exit) refl
 
 -- a plan that posts comes to the exit of a `?`, where the drive refuses the page
-pub exit_post_refused : {X : Type 0} {o : Outcome} {v u : Volume} (reply : X → Reply) (r : Result X Fault) (f : Fault) (g : Rules) (a : Reply) (x : Memory) (w : Write) (page : List ℕ)
+pub exit_post_refused : {X : Type 0} {o : Outcome} {v u : Volume} {page : List ℕ} (reply : X → Reply) (r : Result X Fault) (f : Fault) (g : Rules) (a : Reply) (x : Memory) (w : Write)
     → IsErrAnd r (λ e. e ≡ f) → o ≡ post g v.drive a x w → page ≡ w.bytes → Err (told f) ≡ post_answer g.depth g.life v.drive w.at (length page)
     → u.drive ≡ v.drive → u.memory ≡ v.memory → ComesTo o v u (replied reply r)
-exit_post_refused reply r f g a x w page exit is holds no' drive memory =
-    post_refused_page g _ _ _ _ a x w page (told f) is holds no' (exit_tells reply r f exit) (volume_same drive memory)
+exit_post_refused reply r f g a x w exit is holds no' drive memory =
+    post_refused_page g _ _ _ _ a x w _ (told f) is holds no' (exit_tells reply r f exit) (volume_same drive memory)
 
 -- the call is carried out by the exit of a `?`, where its plan refuses
 pub call_refused : {X : Type 0} {g : Rules} {c : Call} {v : Volume} (reply : X → Reply) (r : Result X Fault) (f : Fault) → Fitting c → IsErrAnd r (λ e. e ≡ f)
@@ -89,11 +89,11 @@ pub call_refused : {X : Type 0} {g : Rules} {c : Call} {v : Volume} (reply : X �
 call_refused reply r f fits exit is = carried _ _ _ _ _ fits (exit_refused reply r f exit is)
 
 -- the same, where its plan posts and the drive refuses the page
-pub call_post_refused : {X : Type 0} {g : Rules} {c : Call} {v u : Volume} (reply : X → Reply) (r : Result X Fault) (f : Fault) (a : Reply) (x : Memory) (w : Write) (page : List ℕ)
+pub call_post_refused : {X : Type 0} {g : Rules} {c : Call} {v u : Volume} {page : List ℕ} (reply : X → Reply) (r : Result X Fault) (f : Fault) (a : Reply) (x : Memory) (w : Write)
     → Fitting c → IsErrAnd r (λ e. e ≡ f) → plan g c v.drive v.memory ≡ post g v.drive a x w → page ≡ w.bytes
     → Err (told f) ≡ post_answer g.depth g.life v.drive w.at (length page) → u.drive ≡ v.drive → u.memory ≡ v.memory → CarriesOut g c v u (replied reply r)
-call_post_refused reply r f a x w page fits exit is holds no' drive memory =
-    carried _ _ _ _ _ fits (exit_post_refused reply r f _ a x w page exit is holds no' drive memory)
+call_post_refused reply r f a x w fits exit is holds no' drive memory =
+    carried _ _ _ _ _ fits (exit_post_refused reply r f _ a x w exit is holds no' drive memory)
 
 -- the call is carried out, where its plan leads to an outcome that was come to
 pub call_leads : {g : Rules} {c : Call} {v u : Volume} {o : Outcome} {a b : Result Reply Refusal} → Fitting c → plan g c v.drive v.memory ≡ o → b ≡ a → ComesTo o v u a → CarriesOut g c v u b
@@ -107,8 +107,8 @@ pub call_kept : {g : Rules} {c : Call} {v u : Volume} {r : Reply} {x : Memory} �
 call_kept fits is held drive = carried _ _ _ _ _ fits (keeping _ _ _ _ _ _ is refl held drive)
 
 -- the call is carried out, where its plan posts and the drive accepts the page
-pub call_posted : {g : Rules} {c : Call} {v u : Volume} {r : Reply} {x : Memory} (w : Write) (page : List ℕ) → Fitting c → plan g c v.drive v.memory ≡ post g v.drive r x w
+pub call_posted : {g : Rules} {c : Call} {v u : Volume} {r : Reply} {x : Memory} {page : List ℕ} (w : Write) → Fitting c → plan g c v.drive v.memory ≡ post g v.drive r x w
     → page ≡ w.bytes → Ok tt ≡ post_answer g.depth g.life v.drive w.at (length page) → u.memory ≡ x → (k : ℕ) × (u.drive ≡ complete k (posted v.drive w.at page))
     → CarriesOut g c v u (Ok r)
-call_posted w page fits is holds agreed held after =
-    carried _ _ _ _ _ fits (posting_page _ _ _ _ _ _ _ w page after.0 is holds agreed refl held after.1)
+call_posted w fits is holds agreed held after =
+    carried _ _ _ _ _ fits (posting_page _ _ _ _ _ _ _ w _ after.0 is holds agreed refl held after.1)

@@ -8,13 +8,13 @@ use Rattle.record.specs.declared.label.Label.{Label}
 use Rattle.record.specs.declared.label.LabelState.TheVariants.{InUse}
 use Rattle.model.specs.Carried.{asked}
 use Rattle.model.specs.Memory.{Memory, used}
-use Rattle.volumes.specs.Volumes.{section_or}
 use Rattle.model.specs.Outcomes.{Reply, section, busy, quiet, Outcome, refuse, ask, Rules, keep}
 use Rattle.model.specs.Plans.{kept_label, is_open, is_idle, write_section, take_from, taking, give_oldest, giving, balance_plan}
 use Rattle.model.specs.Shown.{bits_shown}
 use Rattle.model.specs.Stock.{cover, lowest, all_marked, given, staying, counting_free, oldest}
-use Rattle.volumes.proofs.Carrying.{page_and_phase}
 use Rattle.model.proofs.CarriedLaws.{asked_yes, asked_no}
+use Rattle.volumes.specs.Volumes.{section_or}
+use Rattle.volumes.proofs.Carrying.{page_and_phase}
 
 -- ---- how much is held
 
@@ -29,6 +29,7 @@ first_oldest (x ∷ xs) = refl
 
 -- ---- the section that is posted
 
+-- addresses are taken from it, as the steps of take have done
 pub section_taken : {D : Type 0} (g : Rules) (meaning : D → Meaning) (d e : D) (l : Label) (v : Memory) (k most : ℕ) (service shown left taken : List ℕ)
     → Some k ≡ counting_free 0 v.counts → service ≡ v.service → most ≡ 16 - length service
     → d ≡ e → l ≡ kept_label (meaning e) v InUse → shown ≡ bits_shown (meaning d) l.id l.entries k
@@ -40,6 +41,7 @@ section_taken g meaning d e l v k most service shown left taken found serves wan
     let posts : taking g (meaning e) v k ≡ write_section g (meaning e) v k left v.service (v.unsettled ++ taken) = rw (takes, leaves, amount, shows) in
     ap (take_from g (meaning e) v) (sym found) ∙ posts
 
+-- addresses are given back to it, as the steps of give have done
 pub section_given : {D : Type 0} (g : Rules) (meaning : D → Meaning) (d e : D) (l : Label) (v : Memory) (n a k most : ℕ) (r : Reply) (first service shown back gives stays : List ℕ)
     → Some a ≡ slice_get first 0 → first ≡ v.service → k ≡ cover a → service ≡ v.service → most ≡ length service - n
     → d ≡ e → l ≡ kept_label (meaning e) v InUse → shown ≡ bits_shown (meaning d) l.id l.entries k

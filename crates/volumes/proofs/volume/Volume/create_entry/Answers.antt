@@ -43,7 +43,7 @@ returns-in_err-ask_free g c =
 pub returns-in_err-post_entry : goal.returns-in_err-post_entry
 unfolding plan create_plan
 returns-in_err-post_entry g c =
-    call_post_refused _ _ _ _ _ _ _ (omega arith) c.from_residual-in_err-post_entry.ensures.1 (page_and_phase _ _ _ c.in_ok-page.ensures c.in_ok-ask_phase.ensures
+    call_post_refused _ _ _ _ _ _ (omega arith) c.from_residual-in_err-post_entry.ensures.1 (page_and_phase _ _ _ c.in_ok-page.ensures c.in_ok-ask_phase.ensures
     ∙ (asked_yes _ _ _ c.in_ok-ask_unused.ensures.unused ∙ (asked_yes _ _ _ c.in_ok-ask_number.ensures.taken ∙ (asked_yes _ _ _ c.in_ok-ask_meter.ensures
     ∙ needed_at_some _ _ _ _ _ (asked_of_shown _ _ _ _ _ c.in_ok-ask_free.ensures c.shown_entry-shown.ensures)))))
     (ap₂ entry_bytes c.id.ensures refl) c.in_err-post_entry.ensures.answer c.in_err-post_entry.ensures.after refl
@@ -52,7 +52,7 @@ pub returns : goal.returns
 unfolding plan create_plan
 returns g c =
     let posted = c.in_ok-post_entry.ensures in
-    call_posted _ _ (omega arith) (page_and_phase _ _ _ c.in_ok-page.ensures c.in_ok-ask_phase.ensures
+    call_posted _ (omega arith) (page_and_phase _ _ _ c.in_ok-page.ensures c.in_ok-ask_phase.ensures
     ∙ (asked_yes _ _ _ c.in_ok-ask_unused.ensures.unused ∙ (asked_yes _ _ _ c.in_ok-ask_number.ensures.taken ∙ (asked_yes _ _ _ c.in_ok-ask_meter.ensures
     ∙ needed_at_some _ _ _ _ _ (asked_of_shown _ _ _ _ _ c.in_ok-ask_free.ensures c.shown_entry-shown.ensures)))))
     (ap₂ entry_bytes c.id.ensures refl) posted.answer c.hold.ensures posted.after

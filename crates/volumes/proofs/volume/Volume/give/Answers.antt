@@ -9,7 +9,7 @@ use Rattle.volumes.proofs.volume.Volume.give.Goals as goal
 pub returns-in_err-post_section : goal.returns-in_err-post_section
 returns-in_err-post_section g c reply =
     let kept = c.in_err-post_section.ensures in
-    exit_post_refused _ _ _ _ _ _ _ _ c.from_residual.ensures.1
+    exit_post_refused _ _ _ _ _ _ _ c.from_residual.ensures.1
     (section_given _ g.D.Drive.meaning _ _ _ _ _ _ _ _ _ _ _ _ _ _ _ (c.in-Some.ensures ∙ c.first.ensures.value) c.service.ensures.value c.covering-k.ensures.value
     c.service-service.ensures.value c.saturating_sub-most.ensures c.records.ensures.same c.records.ensures.label c.shown_section-section.ensures
     (c.deref.ensures.0 ∙ c.part-given.ensures.given) c.give_back.ensures c.part-given.ensures.staying)

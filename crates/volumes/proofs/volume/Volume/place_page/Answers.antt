@@ -39,7 +39,7 @@ returns-in_err-ask_ticket g c =
 pub returns-in_err-post : goal.returns-in_err-post
 unfolding plan place_plan
 returns-in_err-post g c =
-    call_post_refused _ _ _ _ _ _ _ (omega arith, bytes_fit c.args.page.now c.type_inv.page) c.from_residual-in_err-post.ensures.1
+    call_post_refused _ _ _ _ _ _ (omega arith, bytes_fit c.args.page.now c.type_inv.page) c.from_residual-in_err-post.ensures.1
     (page_and_phase _ _ _ c.in_ok-ask_record.ensures c.in_ok-ask_phase.ensures ∙ (needed_some _ _ _ _ c.in_ok-used.ensures.found
     ∙ (needed_some _ _ _ _ c.in_ok-ask_empty.ensures ∙ asked_yes _ _ _ c.in_ok-ask_ticket.ensures.held)))
     refl c.in_err-post.ensures.answer c.in_err-post.ensures.after refl
@@ -48,7 +48,7 @@ pub returns : goal.returns
 unfolding plan place_plan
 returns g c =
     let posted = c.in_ok-post.ensures in
-    call_posted _ _ (omega arith, bytes_fit c.args.page.now c.type_inv.page)
+    call_posted _ (omega arith, bytes_fit c.args.page.now c.type_inv.page)
     (page_and_phase _ _ _ c.in_ok-ask_record.ensures c.in_ok-ask_phase.ensures ∙ (needed_some _ _ _ _ c.in_ok-used.ensures.found
     ∙ (needed_some _ _ _ _ c.in_ok-ask_empty.ensures ∙ asked_yes _ _ _ c.in_ok-ask_ticket.ensures.held)))
     refl posted.answer (c.place.ensures _ (some_of 6 _ _ c.in_ok-used.ensures.found)) posted.after

@@ -23,7 +23,7 @@ returns-in_err-answer g c =
 pub returns-in_err-post : goal.returns-in_err-post
 unfolding plan salvage_plan
 returns-in_err-post g c =
-    call_post_refused _ _ _ _ _ _ _ tt c.from_residual-in_err-post.ensures.1
+    call_post_refused _ _ _ _ _ _ tt c.from_residual-in_err-post.ensures.1
     (page_and_phase _ _ _ c.in_ok-page.ensures c.in_ok-ask_phase.ensures ∙ c.in_ok-answer.ensures _ _)
     refl c.in_err-post.ensures.answer c.in_err-post.ensures.after refl
 
@@ -31,5 +31,5 @@ pub returns : goal.returns
 unfolding plan salvage_plan
 returns g c =
     let posted = c.in_ok-post.ensures in
-    call_posted _ _ tt (page_and_phase _ _ _ c.in_ok-page.ensures c.in_ok-ask_phase.ensures ∙ c.in_ok-answer.ensures _ _)
+    call_posted _ tt (page_and_phase _ _ _ c.in_ok-page.ensures c.in_ok-ask_phase.ensures ∙ c.in_ok-answer.ensures _ _)
     refl posted.answer refl posted.after

@@ -10,7 +10,7 @@ pub returns-in_err-post_section : goal.returns-in_err-post_section
 returns-in_err-post_section g c =
     let takes = c.take_lowest-taken.ensures in
     let kept = c.in_err-post_section.ensures in
-    exit_post_refused _ _ _ _ _ _ _ _ c.from_residual.ensures.1
+    exit_post_refused _ _ _ _ _ _ _ c.from_residual.ensures.1
     (section_taken _ g.D.Drive.meaning _ _ _ c.args.self.now.memory _ _ _ _ _ _ c.in-Some.ensures.lowest c.service.ensures.value c.wanted-most.ensures
     c.records.ensures.same c.records.ensures.label c.shown_section-section.ensures takes.left takes.taken)
     refl kept.answer kept.after kept.same

@@ -43,7 +43,7 @@ pub returns-in_err-post_entry : goal.returns-in_err-post_entry
 unfolding plan update_plan
 returns-in_err-post_entry g c =
     let names = named (g.D.Drive.meaning c.args.self.now.drive) c.in_ok-used.used _ _ c.moved_slots-moved.ensures c.naming_live-entry.ensures in
-    call_post_refused _ _ _ _ _ _ _ tt c.from_residual-in_err-post_entry.ensures.1 (page_and_phase _ _ _ c.in_ok-page.ensures c.in_ok-ask_phase.ensures
+    call_post_refused _ _ _ _ _ _ tt c.from_residual-in_err-post_entry.ensures.1 (page_and_phase _ _ _ c.in_ok-page.ensures c.in_ok-ask_phase.ensures
     ∙ (needed_some _ _ _ _ c.in_ok-used.ensures.found ∙ asked_yes _ _ _ c.in_ok-ask_settled.ensures))
     (ap₂ entry_bytes c.id.ensures names) c.in_err-post_entry.ensures.answer c.in_err-post_entry.ensures.after refl
 
@@ -56,6 +56,6 @@ returns g c =
     let names = named (g.D.Drive.meaning c.args.self.now.drive) c.in_ok-used.used _ _ c.moved_slots-moved.ensures c.naming_live-entry.ensures in
     let held = c.move_slots.ensures x (some_of 6 _ _ c.in_ok-used.ensures.found)
     ∙ ap {B = Memory} (λ ss. with_file v c.args.file (Some (with_slots x ss))) c.moved_slots-moved.ensures in
-    call_posted _ _ tt (page_and_phase _ _ _ c.in_ok-page.ensures c.in_ok-ask_phase.ensures
+    call_posted _ tt (page_and_phase _ _ _ c.in_ok-page.ensures c.in_ok-ask_phase.ensures
     ∙ (needed_some _ _ _ _ c.in_ok-used.ensures.found ∙ asked_yes _ _ _ c.in_ok-ask_settled.ensures))
     (ap₂ entry_bytes c.id.ensures names) posted.answer held posted.after
