@@ -1,18 +1,20 @@
 -- What the calls on the map come to.
-use Rattle.std.proofs.Common.{MatchOption, ◌≡◌, ℕ, ◌-◌, ◌<◌, ◌≤◌, Bool, true, false, eqb, List, [], ◌∷◌, ◌++◌, length, Some, None, Ok, Err, Option, Result, slice_get, sym, refl, ap, ◌∙◌, arith}
+use Rattle.std.proofs.Common.{MatchOption, ◌≡◌, ℕ, ◌-◌, ◌<◌, ◌≤◌, Bool, true, false, eqb, List, [], ◌∷◌, ◌++◌, length, Some, None, Ok, Err, Option, slice_get, sym, refl, ap, ◌∙◌, arith}
 use Rattle.std.proofs.lemmas.Bool.{lt-ltb, le-ltb, cond-true, cond-false}
 use Rattle.drive.specs.Answers.{and_then}
 use Rattle.drive.specs.Faults.{Refusal}
 use Rattle.drive.specs.Meaning.{Meaning}
-use Rattle.model.specs.Calls.{Volume}
-use Rattle.model.specs.Carried.{ComesTo, asked}
+use Rattle.record.specs.declared.label.Label.{Label}
+use Rattle.record.specs.declared.label.LabelState.TheVariants.{InUse}
+use Rattle.model.specs.Carried.{asked}
 use Rattle.model.specs.Memory.{Memory, used}
-use Rattle.volumes.specs.Volumes.{section_or}
 use Rattle.model.specs.Outcomes.{Reply, section, busy, quiet, Outcome, refuse, ask, Rules, keep}
-use Rattle.model.specs.Plans.{is_open, is_idle, write_section, take_from, taking, give_oldest, giving, balance_plan}
+use Rattle.model.specs.Plans.{kept_label, is_open, is_idle, write_section, take_from, taking, give_oldest, giving, balance_plan}
 use Rattle.model.specs.Shown.{bits_shown}
 use Rattle.model.specs.Stock.{cover, lowest, all_marked, given, staying, counting_free, oldest}
 use Rattle.model.proofs.CarriedLaws.{asked_yes, asked_no}
+use Rattle.volumes.specs.Volumes.{section_or}
+use Rattle.volumes.proofs.Carrying.{page_and_phase}
 
 -- ---- how much is held
 
@@ -27,47 +29,61 @@ first_oldest (x ∷ xs) = refl
 
 -- ---- the section that is posted
 
-pub section_taken : (g : Rules) (m : Meaning) (v : Memory) (k n : ℕ) (shown left taken : List ℕ) → Some k ≡ counting_free 0 v.counts → n ≡ 16 - length v.service
-    → shown ≡ bits_shown m v.id v.entries k → left ≡ all_marked k 0 (lowest shown k n) shown → taken ≡ lowest shown k n
-    → take_from g m v (counting_free 0 v.counts) ≡ write_section g m v k left v.service (v.unsettled ++ taken)
-section_taken g m v k n shown left taken found wanted is leaves takes =
-    let posts : taking g m v k ≡ write_section g m v k left v.service (v.unsettled ++ taken) = rw (takes, leaves, wanted, is) in
-    ap (take_from g m v) (sym found) ∙ posts
+-- addresses are taken from it, as the steps of take have done
+pub section_taken : {D : Type 0} (g : Rules) (meaning : D → Meaning) (d e : D) (l : Label) (v : Memory) (k most : ℕ) (service shown left taken : List ℕ)
+    → Some k ≡ counting_free 0 v.counts → service ≡ v.service → most ≡ 16 - length service
+    → d ≡ e → l ≡ kept_label (meaning e) v InUse → shown ≡ bits_shown (meaning d) l.id l.entries k
+    → left ≡ all_marked k 0 (lowest shown k most) shown → taken ≡ lowest shown k most
+    → take_from g (meaning e) v (counting_free 0 v.counts) ≡ write_section g (meaning e) v k left v.service (v.unsettled ++ taken)
+section_taken g meaning d e l v k most service shown left taken found serves wanted same label is leaves takes =
+    let shows : shown ≡ bits_shown (meaning e) v.id v.entries k = is ∙ (λ j. bits_shown (meaning (same j)) (label j).id (label j).entries k) in
+    let amount : most ≡ 16 - length v.service = wanted ∙ ap (λ s. 16 - length s) serves in
+    let posts : taking g (meaning e) v k ≡ write_section g (meaning e) v k left v.service (v.unsettled ++ taken) = rw (takes, leaves, amount, shows) in
+    ap (take_from g (meaning e) v) (sym found) ∙ posts
 
-pub section_given : (g : Rules) (m : Meaning) (v : Memory) (n : ℕ) (r : Reply) (a k most : ℕ) (shown back gives stays : List ℕ) → Some a ≡ oldest v.service → k ≡ cover a
-    → most ≡ length v.service - n → shown ≡ bits_shown m v.id v.entries k → gives ≡ given k most v.service → back ≡ all_marked k 1 gives shown
-    → stays ≡ staying k most v.service → give_oldest g m v n r (oldest v.service) ≡ write_section g m v k back stays v.unsettled
-section_given g m v n r a k most shown back gives stays found covers amount is gone after kept =
-    let posts : giving g m v k (length v.service - n) ≡ write_section g m v k back stays v.unsettled = rw (kept, after, gone, is, amount) in
-    ap (give_oldest g m v n r) (sym found) ∙ (ap (λ x. giving g m v x (length v.service - n)) (sym covers) ∙ posts)
+-- addresses are given back to it, as the steps of give have done
+pub section_given : {D : Type 0} (g : Rules) (meaning : D → Meaning) (d e : D) (l : Label) (v : Memory) (n a k most : ℕ) (r : Reply) (first service shown back gives stays : List ℕ)
+    → Some a ≡ slice_get first 0 → first ≡ v.service → k ≡ cover a → service ≡ v.service → most ≡ length service - n
+    → d ≡ e → l ≡ kept_label (meaning e) v InUse → shown ≡ bits_shown (meaning d) l.id l.entries k
+    → gives ≡ given k most service → back ≡ all_marked k 1 gives shown → stays ≡ staying k most service
+    → give_oldest g (meaning e) v n r (oldest v.service) ≡ write_section g (meaning e) v k back stays v.unsettled
+section_given g meaning d e l v n a k most r first service shown back gives stays begins firsts covers serves wanted same label is gone after kept =
+    let found : Some a ≡ oldest v.service = begins ∙ (ap (λ s. slice_get s 0) firsts ∙ first_oldest v.service) in
+    let shows : shown ≡ bits_shown (meaning e) v.id v.entries k = is ∙ (λ j. bits_shown (meaning (same j)) (label j).id (label j).entries k) in
+    let posts : giving g (meaning e) v k (length v.service - n) ≡ write_section g (meaning e) v k back stays v.unsettled = rw (kept, after, gone, shows, wanted, serves) in
+    ap (give_oldest g (meaning e) v n r) (sym found) ∙ (ap (λ x. giving g (meaning e) v x (length v.service - n)) (sym covers) ∙ posts)
 
 -- ---- the plans, as far as their questions are answered
 
 pub balance_busy : (g : Rules) (n : ℕ) (m : Meaning) (v : Memory) → Ok tt ≡ asked 1 (eqb n 512) → Ok tt ≡ asked 2 (is_open v.phase) → false ≡ is_idle v.chart
     → balance_plan g n m v ≡ keep busy v
 unfolding balance_plan
-balance_busy g n m v page open' idle = asked_yes _ _ _ page ∙ (asked_yes _ _ _ open' ∙ cond-false _ _ _ (sym idle))
+balance_busy g n m v page open' idle = page_and_phase _ _ _ page open' ∙ cond-false _ _ _ (sym idle)
 
-pub balance_takes : (g : Rules) (n : ℕ) (m : Meaning) (v : Memory) → Ok tt ≡ asked 1 (eqb n 512) → Ok tt ≡ asked 2 (is_open v.phase) → true ≡ is_idle v.chart
-    → length v.service < 8 → balance_plan g n m v ≡ take_from g m v (counting_free 0 v.counts)
+pub balance_takes : (g : Rules) (n : ℕ) (m : Meaning) (v : Memory) (service : List ℕ) → Ok tt ≡ asked 1 (eqb n 512) → Ok tt ≡ asked 2 (is_open v.phase) → true ≡ is_idle v.chart
+    → service ≡ v.service → length service < 8 → balance_plan g n m v ≡ take_from g m v (counting_free 0 v.counts)
 unfolding balance_plan
-balance_takes g n m v page open' idle few =
-    asked_yes _ _ _ page ∙ (asked_yes _ _ _ open' ∙ (cond-true _ _ _ (sym idle) ∙ cond-true _ _ _ (lt-ltb (length v.service) 8 few)))
+balance_takes g n m v service page open' idle serves few =
+    let few' : length v.service < 8 = rw (sym serves) few in
+    page_and_phase _ _ _ page open' ∙ (cond-true _ _ _ (sym idle) ∙ cond-true _ _ _ (lt-ltb (length v.service) 8 few'))
 
-pub balance_gives : (g : Rules) (n : ℕ) (m : Meaning) (v : Memory) → Ok tt ≡ asked 1 (eqb n 512) → Ok tt ≡ asked 2 (is_open v.phase) → true ≡ is_idle v.chart
-    → 24 < length v.service → balance_plan g n m v ≡ give_oldest g m v 16 quiet (oldest v.service)
+pub balance_gives : (g : Rules) (n : ℕ) (m : Meaning) (v : Memory) (service : List ℕ) → Ok tt ≡ asked 1 (eqb n 512) → Ok tt ≡ asked 2 (is_open v.phase) → true ≡ is_idle v.chart
+    → service ≡ v.service → 24 < length service → balance_plan g n m v ≡ give_oldest g m v 16 quiet (oldest v.service)
 unfolding balance_plan
-balance_gives g n m v page open' idle many =
+balance_gives g n m v service page open' idle serves many =
+    let many' : 24 < length v.service = rw (sym serves) many in
     let some' : 8 ≤ length v.service = omega arith in
-    asked_yes _ _ _ page
-    ∙ (asked_yes _ _ _ open' ∙ (cond-true _ _ _ (sym idle) ∙ (cond-false _ _ _ (le-ltb (length v.service) 8 some') ∙ cond-true _ _ _ (lt-ltb 24 (length v.service) many))))
+    page_and_phase _ _ _ page open'
+    ∙ (cond-true _ _ _ (sym idle) ∙ (cond-false _ _ _ (le-ltb (length v.service) 8 some') ∙ cond-true _ _ _ (lt-ltb 24 (length v.service) many')))
 
-pub balance_quiet : (g : Rules) (n : ℕ) (m : Meaning) (v : Memory) → Ok tt ≡ asked 1 (eqb n 512) → Ok tt ≡ asked 2 (is_open v.phase) → true ≡ is_idle v.chart
-    → 8 ≤ length v.service → length v.service ≤ 24 → balance_plan g n m v ≡ keep quiet v
+pub balance_quiet : (g : Rules) (n : ℕ) (m : Meaning) (v : Memory) (service : List ℕ) → Ok tt ≡ asked 1 (eqb n 512) → Ok tt ≡ asked 2 (is_open v.phase) → true ≡ is_idle v.chart
+    → service ≡ v.service → 8 ≤ length service → length service ≤ 24 → balance_plan g n m v ≡ keep quiet v
 unfolding balance_plan
-balance_quiet g n m v page open' idle some' most =
-    asked_yes _ _ _ page
-    ∙ (asked_yes _ _ _ open' ∙ (cond-true _ _ _ (sym idle) ∙ (cond-false _ _ _ (le-ltb (length v.service) 8 some') ∙ cond-false _ _ _ (le-ltb 24 (length v.service) most))))
+balance_quiet g n m v service page open' idle serves some' most =
+    let some'' : 8 ≤ length v.service = rw (sym serves) some' in
+    let most' : length v.service ≤ 24 = rw (sym serves) most in
+    page_and_phase _ _ _ page open'
+    ∙ (cond-true _ _ _ (sym idle) ∙ (cond-false _ _ _ (le-ltb (length v.service) 8 some'') ∙ cond-false _ _ _ (le-ltb 24 (length v.service) most')))
 
 -- two questions as one answer
 pub both_yes : (i j : ℕ) (b d : Bool) (o : Outcome) → Ok tt ≡ and_then (asked i b) (asked j d) → ask i b (ask j d o) ≡ o
@@ -79,10 +95,6 @@ pub one_no : (i j : ℕ) (b d : Bool) (o : Outcome) (f : Refusal) → Err f ≡ 
 unfolding ask
 one_no i j true d o f e = asked_no j d o f e
 one_no i j false d o f e = cc
-
--- what comes to an outcome comes to the plan that leads there
-pub at_plan : (p o : Outcome) (v u : Volume) (a b : Result Reply Refusal) → p ≡ o → b ≡ a → ComesTo o v u a → ComesTo p v u b
-at_plan p o v u a b leads tells done = rw (leads, tells) done
 
 -- what a call tells that posted a section, or else did nothing
 pub section_reply : {X : Type 0} (reply : X → Reply) (otherwise : X) (of : ℕ → X) (r : Reply) (o : Option ℕ) (x : X) → MatchOption o (x ≡ otherwise) (λ k. x ≡ of k)

@@ -1,99 +1,75 @@
-use Rattle.std.proofs.Common.{◌≡◌, ◌<◌, ◌≤◌, length, Ok, refl, ap, ◌∙◌, arith, rules as found}
-use Rattle.std.proofs.lemmas.Result.{err_from_is_err_and}
-use Rattle.model.specs.Calls.{plan, Volume}
+use Rattle.std.proofs.Common.{Ok, refl, ap, ◌∙◌, rules as found}
+use Rattle.model.specs.Calls.{plan}
 use Rattle.model.specs.Outcomes.{quiet}
 use Rattle.model.specs.Replies.{balanced_reply}
 use Rattle.model.specs.declared.answers.Balanced.TheVariants.{Section, Quiet}
 use Rattle.model.specs.Plans.{balance_plan}
-use Rattle.model.proofs.CarriedLaws.{asked_yes, asked_no, carried, refusing, keeping}
-use Rattle.volumes.specs.Volumes.{volume_of, rules}
-use Rattle.volumes.proofs.Mapping.{section_reply, balance_busy, balance_takes, balance_gives, balance_quiet, at_plan}
+use Rattle.model.proofs.CarriedLaws.{asked_yes, asked_no}
+use Rattle.volumes.proofs.Mapping.{section_reply, balance_busy, balance_takes, balance_gives, balance_quiet}
+use Rattle.volumes.proofs.Carrying.{call_leads, exit_tells, call_refused, call_kept}
 use Rattle.volumes.proofs.volume.Volume.balance.Goals as goal
 
 pub returns-in_err-page : goal.returns-in_err-page
 unfolding plan balance_plan
-returns-in_err-page g c =
-    let p = err_from_is_err_and c.from_residual.result c.from_residual.ensures.1 in
-    rw (p.1, p.2) (record { carried = carried _ _ _ _ _ tt (refusing _ _ _ _ _ (asked_no _ _ _ _ c.in_err-page.ensures) refl refl); zero = search found })
+returns-in_err-page g c = record { carried = call_refused _ _ _ tt c.from_residual.ensures.1 (asked_no _ _ _ _ c.in_err-page.ensures); zero = search found }
 
 pub returns-in_err-ask_phase : goal.returns-in_err-ask_phase
 unfolding plan balance_plan
 returns-in_err-ask_phase g c =
-    let p = err_from_is_err_and c.from_residual-in_err-ask_phase.result c.from_residual-in_err-ask_phase.ensures.1 in
     let no' = asked_yes _ _ _ c.in_ok-page.ensures ∙ asked_no _ _ _ _ c.in_err-ask_phase.ensures in
-    rw (p.1, p.2) (record { carried = carried _ _ _ _ _ tt (refusing _ _ _ _ _ no' refl refl); zero = search found })
+    record { carried = call_refused _ _ _ tt c.from_residual-in_err-ask_phase.ensures.1 no'; zero = search found }
 
 pub returns-then-not-is_idle : goal.returns-then-not-is_idle
 unfolding plan
 returns-then-not-is_idle g c =
-    let v : Volume = volume_of g.D.Drive.meaning c.args.self.now in
-    let r = rules g.D.Of.Kind.DEPTH g.D.Of.Kind.LIFE in
-    let waits = balance_busy r (length c.args.page.now) v.drive v.memory c.in_ok-page.ensures c.in_ok-ask_phase.ensures c.if-not-is_idle.ensures in
-    record { carried = carried _ _ _ _ _ tt (keeping _ _ _ _ _ _ waits refl refl refl); zero = search found }
+    record { carried = call_kept tt (balance_busy _ _ _ c.args.self.now.memory c.in_ok-page.ensures c.in_ok-ask_phase.ensures c.if-not-is_idle.ensures) refl refl; zero = search found }
 
 pub returns-in_err-posted : goal.returns-in_err-posted
 unfolding plan
 returns-in_err-posted g c =
-    let p = err_from_is_err_and c.from_residual-in_err-posted.result c.from_residual-in_err-posted.ensures.1 in
-    let v : Volume = volume_of g.D.Drive.meaning c.args.self.now in
-    let r = rules g.D.Of.Kind.DEPTH g.D.Of.Kind.LIFE in
-    let service : length c.service-in_service.result.now ≡ length v.memory.service = ap length c.service-in_service.ensures.value in
-    let few : length v.memory.service < 8 = omega arith in
-    let takes = balance_takes r (length c.args.page.now) v.drive v.memory c.in_ok-page.ensures c.in_ok-ask_phase.ensures c.if-not-is_idle.ensures few in
-    rw (p.1, p.2)
-    (record {
-      carried = carried _ _ _ _ _ tt (at_plan _ _ _ _ _ _ takes refl c.in_err-posted.ensures);
+    record {
+      carried = call_leads tt
+          (balance_takes _ _ _ c.args.self.now.memory _ c.in_ok-page.ensures c.in_ok-ask_phase.ensures c.if-not-is_idle.ensures c.service-in_service.ensures.value c.if-in_service-lt-FEW.true)
+          (exit_tells _ _ _ c.from_residual-in_err-posted.ensures.1) c.in_err-posted.ensures;
       zero = search found;
-    })
+    }
 
 pub returns-then-in_service-lt-FEW : goal.returns-then-in_service-lt-FEW
 unfolding plan
 returns-then-in_service-lt-FEW g c =
-    let v : Volume = volume_of g.D.Drive.meaning c.args.self.now in
-    let r = rules g.D.Of.Kind.DEPTH g.D.Of.Kind.LIFE in
-    let service : length c.service-in_service.result.now ≡ length v.memory.service = ap length c.service-in_service.ensures.value in
-    let few : length v.memory.service < 8 = omega arith in
-    let takes = balance_takes r (length c.args.page.now) v.drive v.memory c.in_ok-page.ensures c.in_ok-ask_phase.ensures c.if-not-is_idle.ensures few in
     record {
-      carried = carried _ _ _ _ _ tt (at_plan _ _ _ _ _ _ takes (ap Ok (section_reply balanced_reply Quiet Section quiet _ _ c.map_or.ensures refl (λ k. refl))) c.in_ok-posted.ensures);
+      carried = call_leads tt
+          (balance_takes _ _ _ c.args.self.now.memory _ c.in_ok-page.ensures c.in_ok-ask_phase.ensures c.if-not-is_idle.ensures c.service-in_service.ensures.value c.if-in_service-lt-FEW.true)
+          (ap Ok (section_reply balanced_reply Quiet Section quiet _ _ c.map_or.ensures refl (λ k. refl))) c.in_ok-posted.ensures;
       zero = search found;
     }
 
 pub returns-in_err-posted-2 : goal.returns-in_err-posted-2
 unfolding plan
 returns-in_err-posted-2 g c =
-    let p = err_from_is_err_and c.from_residual-in_err-posted-2.result c.from_residual-in_err-posted-2.ensures.1 in
-    let v : Volume = volume_of g.D.Drive.meaning c.args.self.now in
-    let r = rules g.D.Of.Kind.DEPTH g.D.Of.Kind.LIFE in
-    let service : length c.service-in_service.result.now ≡ length v.memory.service = ap length c.service-in_service.ensures.value in
-    let many : 24 < length v.memory.service = omega arith in
-    let gives = balance_gives r (length c.args.page.now) v.drive v.memory c.in_ok-page.ensures c.in_ok-ask_phase.ensures c.if-not-is_idle.ensures many in
-    rw (p.1, p.2)
-    (record {
-      carried = carried _ _ _ _ _ tt (at_plan _ _ _ _ _ _ gives refl (c.in_err-posted-2.ensures quiet));
+    record {
+      carried = call_leads tt
+          (balance_gives _ _ _ c.args.self.now.memory _ c.in_ok-page.ensures c.in_ok-ask_phase.ensures c.if-not-is_idle.ensures c.service-in_service.ensures.value c.if-in_service-gt-MANY.true)
+          (exit_tells _ _ _ c.from_residual-in_err-posted-2.ensures.1) (c.in_err-posted-2.ensures quiet);
       zero = search found;
-    })
+    }
 
 pub returns-then-in_service-gt-MANY : goal.returns-then-in_service-gt-MANY
 unfolding plan
 returns-then-in_service-gt-MANY g c =
-    let v : Volume = volume_of g.D.Drive.meaning c.args.self.now in
-    let r = rules g.D.Of.Kind.DEPTH g.D.Of.Kind.LIFE in
-    let service : length c.service-in_service.result.now ≡ length v.memory.service = ap length c.service-in_service.ensures.value in
-    let many : 24 < length v.memory.service = omega arith in
-    let gives = balance_gives r (length c.args.page.now) v.drive v.memory c.in_ok-page.ensures c.in_ok-ask_phase.ensures c.if-not-is_idle.ensures many in
     record {
-      carried = carried _ _ _ _ _ tt (at_plan _ _ _ _ _ _ gives (ap Ok (section_reply balanced_reply Quiet Section quiet _ _ c.map_or-then-in_service-gt-MANY.ensures refl (λ k. refl))) (c.in_ok-posted-2.ensures quiet));
+      carried = call_leads tt
+          (balance_gives _ _ _ c.args.self.now.memory _ c.in_ok-page.ensures c.in_ok-ask_phase.ensures c.if-not-is_idle.ensures c.service-in_service.ensures.value c.if-in_service-gt-MANY.true)
+          (ap Ok (section_reply balanced_reply Quiet Section quiet _ _ c.map_or-then-in_service-gt-MANY.ensures refl (λ k. refl))) (c.in_ok-posted-2.ensures quiet);
       zero = search found;
     }
 
 pub returns : goal.returns
 unfolding plan
 returns g c =
-    let v : Volume = volume_of g.D.Drive.meaning c.args.self.now in
-    let r = rules g.D.Of.Kind.DEPTH g.D.Of.Kind.LIFE in
-    let service : length c.service-in_service.result.now ≡ length v.memory.service = ap length c.service-in_service.ensures.value in
-    let some' : 8 ≤ length v.memory.service = omega arith in
-    let most : length v.memory.service ≤ 24 = omega arith in
-    let rests = balance_quiet r (length c.args.page.now) v.drive v.memory c.in_ok-page.ensures c.in_ok-ask_phase.ensures c.if-not-is_idle.ensures some' most in
-    record { carried = carried _ _ _ _ _ tt (keeping _ _ _ _ _ _ rests refl refl refl); zero = search found }
+    record {
+      carried = call_kept tt
+          (balance_quiet _ _ _ c.args.self.now.memory _ c.in_ok-page.ensures c.in_ok-ask_phase.ensures c.if-not-is_idle.ensures c.service-in_service.ensures.value c.if-in_service-lt-FEW.false c.if-in_service-gt-MANY.false)
+          refl refl;
+      zero = search found;
+    }

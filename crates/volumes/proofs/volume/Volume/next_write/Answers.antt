@@ -1,5 +1,4 @@
 use Rattle.std.proofs.Common.{◌≡◌, length, eqb, ap, ◌∙◌, subst, arith}
-use Rattle.std.proofs.lemmas.Result.{err_from_is_err_and}
 use Rattle.drive.specs.Meaning.{size}
 use Rattle.model.specs.Carried.{asked}
 use Rattle.model.specs.Mending.{salvaging}
@@ -7,27 +6,22 @@ use Rattle.model.specs.Outcomes.{post}
 use Rattle.model.specs.Replies.{salvaged_reply}
 use Rattle.model.specs.Shown.{label_shown}
 use Rattle.model.proofs.CarriedLaws.{asked_yes, asked_no, needed_some, needed_none, some_of}
-use Rattle.volumes.proofs.Carrying.{tally_long}
+use Rattle.volumes.proofs.Carrying.{exit_is, tally_long}
 use Rattle.volumes.proofs.volume.Volume.next_write.Goals as goal
 
 pub returns-in_err-records : goal.returns-in_err-records
-returns-in_err-records g c =
-    let p = err_from_is_err_and c.from_residual.result c.from_residual.ensures.1 in
-    λ r v. rw (p.1, p.2) (needed_none _ _ _ _ c.in_err-records.ensures.label)
+returns-in_err-records g c = λ r v. rw (exit_is _ _ c.from_residual.ensures.1) (needed_none _ _ _ _ c.in_err-records.ensures.label)
 
 pub returns-in_err-ask_tally : goal.returns-in_err-ask_tally
 returns-in_err-ask_tally g c =
-    let p = err_from_is_err_and c.from_residual-in_err-ask_tally.result c.from_residual-in_err-ask_tally.ensures.1 in
     let at_size = ap (λ n. asked 5 (eqb (length c.args.tally.now) n)) c.size.ensures in
-    λ r v. rw (p.1, p.2) (needed_some _ _ _ _ c.in_ok-records.ensures.label ∙ asked_no _ _ _ _ (c.in_err-ask_tally.ensures ∙ at_size))
+    λ r v. rw (exit_is _ _ c.from_residual-in_err-ask_tally.ensures.1) (needed_some _ _ _ _ c.in_ok-records.ensures.label ∙ asked_no _ _ _ _ (c.in_err-ask_tally.ensures ∙ at_size))
 
 pub returns-in_err-ask_quiet : goal.returns-in_err-ask_quiet
 returns-in_err-ask_quiet g c =
-    let p = err_from_is_err_and c.from_residual-in_err-ask_quiet.result c.from_residual-in_err-ask_quiet.ensures.1 in
     let at_size = ap (λ n. asked 5 (eqb (length c.args.tally.now) n)) c.size.ensures in
     let at_owed = ap (λ n. asked 15 (eqb n 0)) c.owed.ensures.value in
-    λ r v.
-    rw (p.1, p.2) (needed_some _ _ _ _ c.in_ok-records.ensures.label
+    λ r v. rw (exit_is _ _ c.from_residual-in_err-ask_quiet.ensures.1) (needed_some _ _ _ _ c.in_ok-records.ensures.label
     ∙ (asked_yes _ _ _ (c.in_ok-ask_tally.ensures ∙ at_size) ∙ asked_no _ _ _ _ (c.in_err-ask_quiet.ensures ∙ at_owed)))
 
 pub next_mend-requires : goal.next_mend-requires

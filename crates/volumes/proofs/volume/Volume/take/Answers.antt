@@ -1,26 +1,19 @@
-use Rattle.std.proofs.Common.{◌≡◌, ◌+◌, ◌-◌, ◌≤◌, ◌++◌, length, set, sym, refl, ap, ◌∙◌, subst, ap₂, arith}
-use Rattle.std.proofs.lemmas.Result.{err_from_is_err_and}
-use Rattle.model.specs.Calls.{Volume}
+use Rattle.std.proofs.Common.{◌≡◌, ◌+◌, ◌≤◌, ◌++◌, length, set, sym, refl, ap, ◌∙◌, subst, ap₂, arith}
 use Rattle.model.specs.declared.memory.MapState.TheVariants.{Writing}
 use Rattle.model.specs.Memory.{Memory, held, with_stock}
-use Rattle.model.specs.Shown.{bits_shown}
-use Rattle.model.proofs.CarriedLaws.{posting, post_refused}
-use Rattle.volumes.specs.Volumes.{volume_of, rules}
+use Rattle.model.proofs.CarriedLaws.{posting}
 use Rattle.volumes.proofs.Mapping.{used_within, section_taken}
+use Rattle.volumes.proofs.Carrying.{exit_post_refused}
 use Rattle.volumes.proofs.volume.Volume.take.Goals as goal
 
 pub returns-in_err-post_section : goal.returns-in_err-post_section
 returns-in_err-post_section g c =
-    let p = err_from_is_err_and c.from_residual.result c.from_residual.ensures.1 in
-    let v : Volume = volume_of g.D.Drive.meaning c.args.self.now in
-    let r = rules g.D.Of.Kind.DEPTH g.D.Of.Kind.LIFE in
     let takes = c.take_lowest-taken.ensures in
-    let service = ap length c.service.ensures.value in
-    let shown = c.shown_section-section.ensures ∙ (λ j. bits_shown (g.D.Drive.meaning (c.records.ensures.same j)) (c.records.ensures.label j).id (c.records.ensures.label j).entries c.in-Some.k) in
-    let plan = section_taken r v.drive v.memory _ _ _ _ _ c.in-Some.ensures.lowest (c.wanted-most.ensures ∙ ap (λ n. 16 - n) service) shown takes.left takes.taken in
     let kept = c.in_err-post_section.ensures in
-    let same = ap₂ {C = Volume} (λ d x. record { drive = d; memory = x }) kept.after kept.same in
-    rw (p.1, p.2) (post_refused r v _ _ _ _ _ _ _ plan kept.answer refl same)
+    exit_post_refused _ _ _ _ _ _ _ c.from_residual.ensures.1
+    (section_taken _ g.D.Drive.meaning _ _ _ c.args.self.now.memory _ _ _ _ _ _ c.in-Some.ensures.lowest c.service.ensures.value c.wanted-most.ensures
+    c.records.ensures.same c.records.ensures.label c.shown_section-section.ensures takes.left takes.taken)
+    refl kept.answer kept.after kept.same
 
 pub take-requires : goal.take-requires
 take-requires g c =
@@ -35,14 +28,12 @@ take-requires g c =
 
 pub returns : goal.returns
 returns g c =
-    let v : Volume = volume_of g.D.Drive.meaning c.args.self.now in
-    let r = rules g.D.Of.Kind.DEPTH g.D.Of.Kind.LIFE in
     let takes = c.take_lowest-taken.ensures in
-    let service = ap length c.service.ensures.value in
-    let shown = c.shown_section-section.ensures ∙ (λ j. bits_shown (g.D.Drive.meaning (c.records.ensures.same j)) (c.records.ensures.label j).id (c.records.ensures.label j).entries c.in-Some.k) in
-    let plan = section_taken r v.drive v.memory _ _ _ _ _ c.in-Some.ensures.lowest (c.wanted-most.ensures ∙ ap (λ n. 16 - n) service) shown takes.left (c.deref.ensures.0 ∙ takes.taken) in
     let posted = c.in_ok-post_section.ensures in
     let k = c.in-Some.k in
     let taken = c.deref.result.now in
     let held = c.take.ensures ∙ ap₂ {C = Memory} (λ x n. with_stock x (Writing k) (set x.counts k n) x.service (x.unsettled ++ taken)) posted.same c.count.ensures in
-    posting r v _ _ _ _ _ _ posted.after.0 plan posted.answer refl held posted.after.1
+    posting _ _ _ _ _ _ _ _ posted.after.0
+    (section_taken _ g.D.Drive.meaning _ _ _ c.args.self.now.memory _ _ _ _ _ _ c.in-Some.ensures.lowest c.service.ensures.value c.wanted-most.ensures
+    c.records.ensures.same c.records.ensures.label c.shown_section-section.ensures takes.left (c.deref.ensures.0 ∙ takes.taken))
+    posted.answer refl held posted.after.1
