@@ -3,6 +3,7 @@ ghost use Rattle.std.specs.Prelude.{◌≡◌, min, []};
 ghost use Rattle.std.proofs.Common.{rules};
 
 use crate::buffered::Buffered;
+use crate::device::Kind;
 use crate::kinds::CabinetKind;
 use crate::pace::Pace;
 
@@ -49,6 +50,8 @@ impl<'a> Buffered<'a, Steady> {
 
 // What the clauses of a drive whose writes wait say of the cabinet.
 pub fn a_cabinet_completes_nothing_in_a_post_and_one_write_in_a_step()
+    ensures depth { ⟦<CabinetKind as Kind>⟧.DEPTH ≡ 4 }
+    ensures life { ⟦<CabinetKind as Kind>⟧.LIFE ≡ 1000000 }
     ensures in_post { ⟦<Steady as Pace>⟧.in_post (record {}) ≡ 0 }
     ensures in_step { ⟦<Steady as Pace>⟧.in_step (record {}) ≡ 1 }
 {}

@@ -66,7 +66,7 @@ pub struct Fault {
     pub address: u16,
 }
 
-// The address of a fault that concerns no record: the rules of a refusal name this number, so it stays one.
+// The address of a fault that concerns no record. A number and no `Option`: the rules of a refusal name it.
 pub const NO_RECORD: u16 = 65535;
 
 impl Question {

@@ -1,4 +1,4 @@
-// The depth and the life of each kind of drive.
+// The depth and the life of each kind of drive. No one type over two numbers: the laws do not hold of every two.
 ghost use Rattle.std.proofs.Common.{rules};
 
 use crate::device::Kind;

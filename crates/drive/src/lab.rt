@@ -1,10 +1,11 @@
 // The lab drive, for tests: its pace decides how many writes it completes.
 ghost use Rattle.std.specs.Prelude.{◌≡◌, ℕ, min, [], Result};
 ghost use Rattle.std.proofs.Common.{rules};
-ghost use Rattle.drive.specs.Faults.{Refusal};
+ghost use Rattle.drive.specs.declared.fault.Fault.{Fault};
 ghost use Rattle.drive.specs.Pace.{next_pace, paced, paced_post, paced_step, after_accepted, after_finding, pace_after_post, pace_after_step};
 
 use crate::buffered::Buffered;
+use crate::device::Kind;
 use crate::kinds::LabKind;
 use crate::pace::Pace;
 
@@ -74,8 +75,10 @@ impl<'a> Buffered<'a, LabPace> {
 
 // What the clauses of a drive whose writes wait say of the lab drive.
 pub fn a_lab_drive_follows_its_pace()
+    ensures depth { ⟦<LabKind as Kind>⟧.DEPTH ≡ 3 }
+    ensures life { ⟦<LabKind as Kind>⟧.LIFE ≡ 5000 }
     ensures in_post { (x : ℕ) → ⟦<LabPace as Pace>⟧.in_post (record { number = x }) ≡ paced_post x }
     ensures in_step { (x : ℕ) → ⟦<LabPace as Pace>⟧.in_step (record { number = x }) ≡ paced_step x }
-    ensures after_post { (r : Result (Unit {0}) Refusal) (x : ℕ) → (after_accepted ⟦<LabPace as Pace>⟧.next r (record { number = x })).number ≡ pace_after_post r x }
+    ensures after_post { (r : Result (Unit {0}) Fault) (x : ℕ) → (after_accepted ⟦<LabPace as Pace>⟧.next r (record { number = x })).number ≡ pace_after_post r x }
     ensures after_step { (n x : ℕ) → (after_finding ⟦<LabPace as Pace>⟧.next n (record { number = x })).number ≡ pace_after_step n x }
 {}

@@ -1,4 +1,5 @@
-// Records of 512 bytes that lie in bytes handed in, with a mark byte for each: not 0 where the record is spoiled.
+// Records of 512 bytes that lie in bytes handed in, with a mark byte for each: not 0 where the record is spoiled. Bytes and
+// marks are two pieces of memory, by a rule of the project.
 ghost use Rattle.std.specs.Prelude.{◌≡◌, ◌<◌, true, length, slice_index_or, slice_set};
 ghost use Rattle.drive.specs.Each.{each, holds_bytes};
 ghost use Rattle.drive.specs.Meaning.{readable, spoiled};

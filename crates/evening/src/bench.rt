@@ -1,4 +1,4 @@
-// A technician's bench: a volume, a page, and steps of work, each of which prints a line with its answer.
+// A technician's bench: a volume, a page, and steps of work, most of which print a line with their answer.
 use crate::meters::{Meter, PAGES};
 use crate::report::Glance;
 use anyhow::anyhow;

@@ -6,7 +6,7 @@ use figures::{
 use std::fmt;
 use surveys::survey::Survey;
 
-// The volume as it shows, and what its drive has spent.
+// The volume as it shows, and what its drive has spent: the collector's report, and in it how many pages are named.
 #[derive(Drop)]
 pub struct Report<'a> {
     pub survey: &'a Survey,

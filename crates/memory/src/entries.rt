@@ -160,7 +160,7 @@ pub fn naming_live(meter: u32, slots: &[Slot; 64]) -> Entry
     }
 }
 
-// What an entry has for a slot. No `From<Slot>`, as above.
+// What an entry has for a slot. No `From<Slot>`: it forgets the slot's case.
 fn live_address(slot: Slot) -> u16
     ensures { result ≡ live_address slot }
 {

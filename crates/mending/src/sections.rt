@@ -25,6 +25,7 @@ pub(crate) fn first_inexact<D: Drive>(
     requires named { Tallies (pages_of records.now.label) tally.now (named_in records.now.label (shown (D.meaning records.now.drive.now))) }
     ensures { result ≡ inexact_in records.now.label (shown (D.meaning records.now.drive.now)) }
 {
+    // A loop: each turn encodes a section and reads a record, more than a closure of `find` reads well with.
     for k in 0..SECTIONS {
         let mut bytes = [0; RECORD];
         encode_exact(records, k, tally, &mut bytes);
@@ -59,6 +60,7 @@ fn exact_section(span: &Span, tally: &[u8]) -> Section
     requires small { span.now.first < 65536 }
     ensures { result.bits ≡ left_over_bits span.now tally.now }
 {
+    // Not one with `Section::all_free`: what a closure answers of each number would have to be said of its calls.
     let mut section = Section::none();
     for r in 0..COVERED {
         if is_left(span.first + r, &span.free, tally) {

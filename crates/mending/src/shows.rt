@@ -9,6 +9,7 @@ use record::control::RECORD;
 pub(crate) fn shows(shown: Option<&[u8; RECORD]>, bytes: &[u8; RECORD]) -> bool
     ensures { result ≡ same (unwrap_or (option_copied shown.entry) []) bytes.now }
 {
+    // No `is_some_and`: its proof did not close.
     let Some(page) = shown else {
         return false;
     };

@@ -1,4 +1,4 @@
-// What the calls of a volume answer, as types.
+// What the calls of a volume answer, as types whose cases the plans name.
 
 // Of a withdraw: a grant, or none for now, or none at all.
 pub enum Withdrawn<G> {

@@ -1,4 +1,4 @@
-// What a volume keeps in memory, as types: its phase, what its map is doing, and its files.
+// What a volume keeps in memory, as types whose cases the plans name: its phase, what its map is doing, and its files.
 
 // A volume is opened, worked on, closed and shut.
 #[derive(Clone, Copy, PartialEq, Eq, Debug)]

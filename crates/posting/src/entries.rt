@@ -12,7 +12,7 @@ use reading::layout::{FIRST_ENTRY, SUM_START};
 use record::control::RECORD;
 use record::entry::Entry;
 
-// Posts the record of entry `number` of the volume with this id.
+// Posts the record of entry `number` of the volume with this id. The number is one that a file holds, and so in its limits.
 pub fn post_entry<D: Drive>(
     drive: &mut D,
     id: u32,

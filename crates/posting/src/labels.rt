@@ -13,10 +13,7 @@ use record::label::{Label, LabelState};
 pub fn ask_may_open(state: LabelState) -> Result<(), Fault>
     ensures { said result ≡ asked 4 (may_open state) }
 {
-    let LabelState::Salvage = state else {
-        return Ok(());
-    };
-    Err(Question::LabelState.refused())
+    Question::LabelState.ask(state != LabelState::Salvage)
 }
 
 // The label of a volume that is opened: one more trouble where it was left in use.

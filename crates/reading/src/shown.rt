@@ -83,7 +83,7 @@ impl<'a, D: Drive> Records<'a, D> {
         Span::of_map(k, self.label.entries, self.label.records)
     }
 
-    // Entry `i`, where it is sound.
+    // Entry `i`, where it is sound: a number, as in the plans, that the label's limits allow.
     pub fn entry(&self, i: u16, page: &mut [u8; RECORD]) -> Option<Entry>
         requires { i < 3968 }
         ensures { result ≡ entry_in_state self.now.label.id self.now.label.entries self.now.label.records (shown (D.meaning self.now.drive.now) (8 + i)) }

@@ -15,6 +15,7 @@ pub fn check_word(page: &[u8], start: u32) -> u32
 {
     let (quads, _) = page.as_chunks::<4>();
     let mut sum = start;
+    // The words are walked with their index, by a rule of the project.
     for (i, quad) in quads.iter().enumerate() {
         if i != CHECK {
             sum = sum.rotate_left(1).wrapping_add(u32::from_be_bytes(*quad));

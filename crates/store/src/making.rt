@@ -47,9 +47,7 @@ fn ask_make<'p, D: Drive>(
     ensures { told_with (λ _. tt) result ≡ make_answer D.Of.LIFE (D.meaning drive.now) id entries (length page.old) }
 {
     let record = ask_page(page)?;
-    if !in_limits(id, u32::from(entries), drive.size()) {
-        return Err(Question::Limits.refused());
-    }
+    Question::Limits.ask(in_limits(id, u32::from(entries), drive.size()))?;
     if drive.left() < u32::from(entries) + FIXED_WRITES {
         return Err(Question::Life.at(FIRST_ENTRY));
     }
@@ -57,7 +55,8 @@ fn ask_make<'p, D: Drive>(
 }
 
 // Posts exactly the writes of a new volume, one after the other, each completed before the next. That nothing is
-// outstanding is asked here and in what follows: it is a fact of a moment, and each write makes it anew.
+// outstanding is asked here and in what follows: it is a fact of a moment, and each write makes it anew. No fault comes
+// (`accepted`), and the writes read as any other post, by `?`.
 fn write_volume<D: Drive>(
     drive: &mut D,
     id: u32,

@@ -12,7 +12,8 @@ use usage::{close_and_open_again, place_one_and_deposit_another};
 use volumes::tokens::WorkingPass;
 use volumes::volume::Volume;
 
-// The address of the grant that a withdraw gives, which is deposited again; none where it says wait or full.
+// The address of the grant that a withdraw gives, which is deposited again; none where it says wait or full. No other crate
+// asks for just the address.
 fn granted<D: Drive>(volume: &mut Volume<D>, pass: &WorkingPass) -> Result<Option<u16>, Fault> {
     match volume.withdraw(pass)? {
         Withdrawn::Granted(grant) => {

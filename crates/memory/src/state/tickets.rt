@@ -101,6 +101,7 @@ impl Memory {
         ensures same { UnlessAcceptedSame result self.old self.new }
     {
         self.ask_ticket(ticket, address)?;
+        // Not by `free_ticket`: ticket and stock change in one step.
         self.tickets[usize::from(ticket)] = None;
         self.service.push(address);
         Ok(())

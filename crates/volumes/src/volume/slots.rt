@@ -117,7 +117,7 @@ impl<D: Drive> Volume<D> {
     }
 }
 
-// Is the page 512 bytes?
+// Is the page 512 bytes? As `ask_page`, of a page that goes on as a slice: who placed it or reads it looks at that.
 fn ask_record(page: &[u8]) -> Result<(), Fault>
     ensures { said result ≡ asked 1 (length page.now == 512) }
 {
