@@ -33,7 +33,7 @@ fn withdraw_and_deposit<D: Drive>(volume: &mut Volume<D>, pass: &WorkingPass) ->
     }
 }
 
-// Places the page; a grant that comes back is deposited.
+// Places the page; a grant that comes back is deposited. The evening does this too, and tells the technician in between.
 fn place<D: Drive>(
     volume: &mut Volume<D>,
     pass: &WorkingPass,
