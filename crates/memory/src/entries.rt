@@ -13,6 +13,7 @@ use drive::fault::{Fault, Question};
 use model::memory::{File, Slot};
 use record::entry::Entry;
 use record::region::FIRST_ENTRY;
+use std::array;
 
 // Is the entry number below the number of entries, and in no file?
 #[tactic(auto, using(crate::proofs::TableLaws::in_some))]
@@ -137,7 +138,7 @@ pub fn are_at_rest(slots: &[Slot]) -> bool
 pub fn load(shown: &Entry) -> [Slot; 64]
     ensures { result ≡ map loaded shown.now.slots }
 {
-    shown.slots.map(loaded)
+    array::from_fn(|p| loaded(shown.slots[p]))
 }
 
 // What a slot is loaded as. No `From<u16>`: a number is a slot only where an entry has it.
@@ -156,7 +157,7 @@ pub fn naming_live(meter: u32, slots: &[Slot; 64]) -> Entry
 {
     Entry {
         meter,
-        slots: slots.map(live_address),
+        slots: array::from_fn(|p| live_address(slots[p])),
     }
 }
 

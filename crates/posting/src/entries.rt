@@ -11,6 +11,7 @@ use model::memory::Slot;
 use reading::layout::{FIRST_ENTRY, SUM_START};
 use record::control::RECORD;
 use record::entry::Entry;
+use std::array;
 
 // Posts the record of entry `number` of the volume with this id. The number is one that a file holds, and so in its limits.
 pub fn post_entry<D: Drive>(
@@ -32,7 +33,7 @@ pub fn post_entry<D: Drive>(
 pub fn moved_slots<D: Drive>(drive: &D, slots: [Slot; 64]) -> [Slot; 64]
     ensures { result ≡ map (updated (D.meaning drive.now)) slots }
 {
-    slots.map(|slot| moved_slot(drive, slot))
+    array::from_fn(|p| moved_slot(drive, slots[p]))
 }
 
 pub fn moved_slot<D: Drive>(drive: &D, slot: Slot) -> Slot

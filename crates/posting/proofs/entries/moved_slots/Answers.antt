@@ -1,11 +1,10 @@
-use Rattle.std.proofs.Common.{◌≡◌, refl, rules}
+use Rattle.std.proofs.Common.{◌∙◌, rules}
 use borrow.Author.Tests.{tests}
 use Rattle.model.specs.declared.memory.Slot.TheVariants.{Empty}
 use Rattle.model.specs.Slots.{updated}
-use Rattle.model.proofs.Mapped.{mapped_by}
+use Rattle.model.proofs.Mapped.{made_from}
 use Rattle.posting.proofs.entries.moved_slots.Goals as goal
 
 pub returns : goal.returns
 returns g c =
-    mapped_by _ (λ f. f.0 ≡ c.args.drive) (updated (g.D.Drive.meaning c.args.drive.now)) _ _ (λ p q x y s e. search (rules, tests, s, e))
-    _ Empty 64 refl (search rules) c.map.ensures.items
+    made_from _ _ (updated (g.D.Drive.meaning c.args.drive.now)) c.args.slots c.from_fn.result Empty (λ i y q k. search (rules, tests)) 64 (search rules) c.from_fn.ensures.items
