@@ -52,6 +52,8 @@ impl<'a> Buffered<'a, Steady> {
 pub fn a_cabinet_completes_nothing_in_a_post_and_one_write_in_a_step()
     ensures depth { ⟦<CabinetKind as Kind>⟧.DEPTH ≡ 4 }
     ensures life { ⟦<CabinetKind as Kind>⟧.LIFE ≡ 1000000 }
+    ensures drive_depth { ⟦<<Steady as Pace>::Of as Kind>⟧.DEPTH ≡ 4 }
+    ensures drive_life { ⟦<<Steady as Pace>::Of as Kind>⟧.LIFE ≡ 1000000 }
     ensures in_post { ⟦<Steady as Pace>⟧.in_post (record {}) ≡ 0 }
     ensures in_step { ⟦<Steady as Pace>⟧.in_step (record {}) ≡ 1 }
 {}

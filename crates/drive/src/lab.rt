@@ -77,6 +77,8 @@ impl<'a> Buffered<'a, LabPace> {
 pub fn a_lab_drive_follows_its_pace()
     ensures depth { ⟦<LabKind as Kind>⟧.DEPTH ≡ 3 }
     ensures life { ⟦<LabKind as Kind>⟧.LIFE ≡ 5000 }
+    ensures drive_depth { ⟦<<LabPace as Pace>::Of as Kind>⟧.DEPTH ≡ 3 }
+    ensures drive_life { ⟦<<LabPace as Pace>::Of as Kind>⟧.LIFE ≡ 5000 }
     ensures in_post { (x : ℕ) → ⟦<LabPace as Pace>⟧.in_post (record { number = x }) ≡ paced_post x }
     ensures in_step { (x : ℕ) → ⟦<LabPace as Pace>⟧.in_step (record { number = x }) ≡ paced_step x }
     ensures after_post { (r : Result (Unit {0}) Fault) (x : ℕ) → (after_accepted ⟦<LabPace as Pace>⟧.next r (record { number = x })).number ≡ pace_after_post r x }
