@@ -1,5 +1,5 @@
 // Making a new volume on a bare drive.
-ghost use Rattle.std.specs.Prelude.{◌≡◌, ◌+◌, ◌≤◌, true, [], ◌∷◌, length, replicate, Ok};
+ghost use Rattle.std.specs.Prelude.{◌≡◌, ◌+◌, ◌≤◌, true, [], ◌∷◌, length, replicate, Ok, IfOk};
 ghost use Rattle.drive.specs.Faults.{said};
 ghost use Rattle.drive.specs.Meaning.{size};
 ghost use Rattle.model.specs.New.{entry_write, section_write, writes_of, new_writes, written, make_answer, after_make};
@@ -44,7 +44,8 @@ fn ask_make<'p, D: Drive>(
     entries: u16,
     page: &'p mut [u8],
 ) -> Result<&'p mut [u8; RECORD], Fault>
-    ensures { told_with (λ _. tt) result ≡ make_answer D.Of.LIFE (D.meaning drive.now) id entries (length page.old) }
+    ensures answer { told_with (λ _. tt) result ≡ make_answer D.Of.LIFE (D.meaning drive.now) id entries (length page.old) }
+    ensures bytes { IfOk result (λ lent. lent.now ≡ page.old) }
 {
     let record = ask_page(page)?;
     Question::Limits.ask(in_limits(id, u32::from(entries), drive.size()))?;

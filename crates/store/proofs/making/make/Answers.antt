@@ -11,7 +11,7 @@ use Rattle.store.proofs.making.make.Goals as goal
 pub write_volume-requires : goal.write_volume-requires
 write_volume-requires g c =
     let before = g.D.Drive.meaning c.args.drive.now in
-    let yes = make_accepted g.D.Of.Kind.LIFE before c.args.id c.args.entries (length c.args.page.now) c.in_ok-record.ensures in
+    let yes = make_accepted g.D.Of.Kind.LIFE before c.args.id c.args.entries (length c.args.page.now) c.in_ok-record.ensures.answer in
     let is = c.complete_all.ensures in
     let same = ap size is ∙ length_settle before.outstanding before.settled in
     record {
@@ -24,14 +24,14 @@ pub returns : goal.returns
 returns g c =
     let m = g.D.Drive.meaning in
     let before = m c.args.drive.now in
-    let yes = make_accepted g.D.Of.Kind.LIFE before c.args.id c.args.entries (length c.args.page.now) c.in_ok-record.ensures in
+    let yes = make_accepted g.D.Of.Kind.LIFE before c.args.id c.args.entries (length c.args.page.now) c.in_ok-record.ensures.answer in
     let id = c.args.id in
     let e = c.args.entries in
     let formed = g.D.Drive.formed c.args.drive.now in
     let kind : Rules = record { depth = g.D.Of.Kind.DEPTH; life = g.D.Of.Kind.LIFE } in
     let new = made_new before (m c.complete_all.new.drive) (m c.write_volume.new.drive) id e formed yes.1 c.complete_all.ensures c.write_volume.ensures.after in
     record {
-      answer = c.in_ok-record.ensures;
+      answer = c.in_ok-record.ensures.answer;
       after = new;
       zero = search rules;
       unharmed = subst (NoPowerCutHarms kind id e) (sym new) (no_power_cut_harms_a_volume kind before id e g.met.D.Of.Kind.deep g.met.D.Of.Kind.lasting formed (omega arith) yes.1);

@@ -11,25 +11,25 @@ use Rattle.volumes.proofs.volume.Volume.balance.Goals as goal
 
 pub returns-in_err-page : goal.returns-in_err-page
 unfolding plan balance_plan
-returns-in_err-page g c = record { carried = call_refused _ _ _ tt c.from_residual.ensures.1 (asked_no _ _ _ _ c.in_err-page.ensures); zero = search found }
+returns-in_err-page g c = record { carried = call_refused _ _ _ tt c.from_residual.ensures.1 (asked_no _ _ _ _ c.in_err-page.ensures.answer); zero = search found }
 
 pub returns-in_err-ask_phase : goal.returns-in_err-ask_phase
 unfolding plan balance_plan
 returns-in_err-ask_phase g c =
-    let no' = asked_yes _ _ _ c.in_ok-page.ensures ∙ asked_no _ _ _ _ c.in_err-ask_phase.ensures in
+    let no' = asked_yes _ _ _ c.in_ok-page.ensures.answer ∙ asked_no _ _ _ _ c.in_err-ask_phase.ensures in
     record { carried = call_refused _ _ _ tt c.from_residual-in_err-ask_phase.ensures.1 no'; zero = search found }
 
 pub returns-then-not-is_idle : goal.returns-then-not-is_idle
 unfolding plan
 returns-then-not-is_idle g c =
-    record { carried = call_kept tt (balance_busy _ _ _ c.args.self.now.memory c.in_ok-page.ensures c.in_ok-ask_phase.ensures c.if-not-is_idle.ensures) refl refl; zero = search found }
+    record { carried = call_kept tt (balance_busy _ _ _ c.args.self.now.memory c.in_ok-page.ensures.answer c.in_ok-ask_phase.ensures c.if-not-is_idle.ensures) refl refl; zero = search found }
 
 pub returns-in_err-posted : goal.returns-in_err-posted
 unfolding plan
 returns-in_err-posted g c =
     record {
       carried = call_leads tt
-          (balance_takes _ _ _ c.args.self.now.memory _ c.in_ok-page.ensures c.in_ok-ask_phase.ensures c.if-not-is_idle.ensures c.service-in_service.ensures.value c.if-in_service-lt-FEW.true)
+          (balance_takes _ _ _ c.args.self.now.memory _ c.in_ok-page.ensures.answer c.in_ok-ask_phase.ensures c.if-not-is_idle.ensures c.service-in_service.ensures.value c.if-in_service-lt-FEW.true)
           (exit_tells _ _ _ c.from_residual-in_err-posted.ensures.1) c.in_err-posted.ensures;
       zero = search found;
     }
@@ -39,7 +39,7 @@ unfolding plan
 returns-then-in_service-lt-FEW g c =
     record {
       carried = call_leads tt
-          (balance_takes _ _ _ c.args.self.now.memory _ c.in_ok-page.ensures c.in_ok-ask_phase.ensures c.if-not-is_idle.ensures c.service-in_service.ensures.value c.if-in_service-lt-FEW.true)
+          (balance_takes _ _ _ c.args.self.now.memory _ c.in_ok-page.ensures.answer c.in_ok-ask_phase.ensures c.if-not-is_idle.ensures c.service-in_service.ensures.value c.if-in_service-lt-FEW.true)
           (ap Ok (section_reply balanced_reply Quiet Section quiet _ _ c.map_or.ensures refl (λ k. refl))) c.in_ok-posted.ensures;
       zero = search found;
     }
@@ -49,7 +49,7 @@ unfolding plan
 returns-in_err-posted-2 g c =
     record {
       carried = call_leads tt
-          (balance_gives _ _ _ c.args.self.now.memory _ c.in_ok-page.ensures c.in_ok-ask_phase.ensures c.if-not-is_idle.ensures c.service-in_service.ensures.value c.if-in_service-gt-MANY.true)
+          (balance_gives _ _ _ c.args.self.now.memory _ c.in_ok-page.ensures.answer c.in_ok-ask_phase.ensures c.if-not-is_idle.ensures c.service-in_service.ensures.value c.if-in_service-gt-MANY.true)
           (exit_tells _ _ _ c.from_residual-in_err-posted-2.ensures.1) (c.in_err-posted-2.ensures quiet);
       zero = search found;
     }
@@ -59,7 +59,7 @@ unfolding plan
 returns-then-in_service-gt-MANY g c =
     record {
       carried = call_leads tt
-          (balance_gives _ _ _ c.args.self.now.memory _ c.in_ok-page.ensures c.in_ok-ask_phase.ensures c.if-not-is_idle.ensures c.service-in_service.ensures.value c.if-in_service-gt-MANY.true)
+          (balance_gives _ _ _ c.args.self.now.memory _ c.in_ok-page.ensures.answer c.in_ok-ask_phase.ensures c.if-not-is_idle.ensures c.service-in_service.ensures.value c.if-in_service-gt-MANY.true)
           (ap Ok (section_reply balanced_reply Quiet Section quiet _ _ c.map_or-then-in_service-gt-MANY.ensures refl (λ k. refl))) (c.in_ok-posted-2.ensures quiet);
       zero = search found;
     }
@@ -69,7 +69,7 @@ unfolding plan
 returns g c =
     record {
       carried = call_kept tt
-          (balance_quiet _ _ _ c.args.self.now.memory _ c.in_ok-page.ensures c.in_ok-ask_phase.ensures c.if-not-is_idle.ensures c.service-in_service.ensures.value c.if-in_service-lt-FEW.false c.if-in_service-gt-MANY.false)
+          (balance_quiet _ _ _ c.args.self.now.memory _ c.in_ok-page.ensures.answer c.in_ok-ask_phase.ensures c.if-not-is_idle.ensures c.service-in_service.ensures.value c.if-in_service-lt-FEW.false c.if-in_service-gt-MANY.false)
           refl refl;
       zero = search found;
     }

@@ -11,24 +11,24 @@ use Rattle.volumes.proofs.volume.Volume.drain.Goals as goal
 
 pub returns-in_err-page : goal.returns-in_err-page
 unfolding plan drain_plan
-returns-in_err-page g c = record { carried = call_refused _ _ _ tt c.from_residual.ensures.1 (asked_no _ _ _ _ c.in_err-page.ensures); zero = search rules }
+returns-in_err-page g c = record { carried = call_refused _ _ _ tt c.from_residual.ensures.1 (asked_no _ _ _ _ c.in_err-page.ensures.answer); zero = search rules }
 
 pub returns-in_err-ask_drain : goal.returns-in_err-ask_drain
 unfolding plan drain_plan
 returns-in_err-ask_drain g c =
-    let no' = asked_yes _ _ _ c.in_ok-page.ensures ∙ one_no _ _ _ _ _ _ c.in_err-ask_drain.ensures in
+    let no' = asked_yes _ _ _ c.in_ok-page.ensures.answer ∙ one_no _ _ _ _ _ _ c.in_err-ask_drain.ensures in
     record { carried = call_refused _ _ _ tt c.from_residual-in_err-ask_drain.ensures.1 no'; zero = search rules }
 
 pub returns-in_err-posted : goal.returns-in_err-posted
 unfolding plan drain_plan
 returns-in_err-posted g c =
-    let gives = asked_yes _ _ _ c.in_ok-page.ensures ∙ both_yes _ _ _ _ _ c.in_ok-ask_drain.ensures in
+    let gives = asked_yes _ _ _ c.in_ok-page.ensures.answer ∙ both_yes _ _ _ _ _ c.in_ok-ask_drain.ensures in
     record { carried = call_leads tt gives (exit_tells _ _ _ c.from_residual-in_err-posted.ensures.1) (c.in_err-posted.ensures dry); zero = search rules }
 
 pub returns : goal.returns
 unfolding plan drain_plan
 returns g c =
-    let gives = asked_yes _ _ _ c.in_ok-page.ensures ∙ both_yes _ _ _ _ _ c.in_ok-ask_drain.ensures in
+    let gives = asked_yes _ _ _ c.in_ok-page.ensures.answer ∙ both_yes _ _ _ _ _ c.in_ok-ask_drain.ensures in
     record {
       carried = call_leads tt gives (ap Ok (section_reply drained_reply Dry Section dry _ _ c.map_or.ensures refl (λ k. refl))) (c.in_ok-posted.ensures dry);
       zero = search rules;

@@ -15,23 +15,23 @@ use Rattle.volumes.proofs.volume.Volume.update_entry.Goals as goal
 
 pub returns-in_err-page : goal.returns-in_err-page
 unfolding plan update_plan
-returns-in_err-page g c = call_refused _ _ _ tt c.from_residual.ensures.1 (asked_no _ _ _ _ c.in_err-page.ensures)
+returns-in_err-page g c = call_refused _ _ _ tt c.from_residual.ensures.1 (asked_no _ _ _ _ c.in_err-page.ensures.answer)
 
 pub returns-in_err-ask_phase : goal.returns-in_err-ask_phase
 unfolding plan update_plan
 returns-in_err-ask_phase g c =
-    call_refused _ _ _ tt c.from_residual-in_err-ask_phase.ensures.1 (asked_yes _ _ _ c.in_ok-page.ensures ∙ asked_no _ _ _ _ c.in_err-ask_phase.ensures)
+    call_refused _ _ _ tt c.from_residual-in_err-ask_phase.ensures.1 (asked_yes _ _ _ c.in_ok-page.ensures.answer ∙ asked_no _ _ _ _ c.in_err-ask_phase.ensures)
 
 pub returns-in_err-used : goal.returns-in_err-used
 unfolding plan update_plan
 returns-in_err-used g c =
     call_refused _ _ _ tt c.from_residual-in_err-used.ensures.1
-    (page_and_phase _ _ _ c.in_ok-page.ensures c.in_ok-ask_phase.ensures ∙ needed_none _ _ _ _ c.in_err-used.ensures.found)
+    (page_and_phase _ _ _ c.in_ok-page.ensures.answer c.in_ok-ask_phase.ensures ∙ needed_none _ _ _ _ c.in_err-used.ensures.found)
 
 pub returns-in_err-ask_settled : goal.returns-in_err-ask_settled
 unfolding plan update_plan
 returns-in_err-ask_settled g c =
-    call_refused _ _ _ tt c.from_residual-in_err-ask_settled.ensures.1 (page_and_phase _ _ _ c.in_ok-page.ensures c.in_ok-ask_phase.ensures
+    call_refused _ _ _ tt c.from_residual-in_err-ask_settled.ensures.1 (page_and_phase _ _ _ c.in_ok-page.ensures.answer c.in_ok-ask_phase.ensures
     ∙ (needed_some _ _ _ _ c.in_ok-used.ensures.found ∙ asked_no _ _ _ _ c.in_err-ask_settled.ensures))
 
 -- the entry that is posted names the pages that are Live once the slots have moved
@@ -43,7 +43,7 @@ pub returns-in_err-post_entry : goal.returns-in_err-post_entry
 unfolding plan update_plan
 returns-in_err-post_entry g c =
     let names = named (g.D.Drive.meaning c.args.self.now.drive) c.in_ok-used.used _ _ c.moved_slots-moved.ensures c.naming_live-entry.ensures in
-    call_post_refused _ _ _ _ _ _ tt c.from_residual-in_err-post_entry.ensures.1 (page_and_phase _ _ _ c.in_ok-page.ensures c.in_ok-ask_phase.ensures
+    call_post_refused _ _ _ _ _ _ tt c.from_residual-in_err-post_entry.ensures.1 (page_and_phase _ _ _ c.in_ok-page.ensures.answer c.in_ok-ask_phase.ensures
     ∙ (needed_some _ _ _ _ c.in_ok-used.ensures.found ∙ asked_yes _ _ _ c.in_ok-ask_settled.ensures))
     (ap₂ entry_bytes c.id.ensures names) c.in_err-post_entry.ensures.answer c.in_err-post_entry.ensures.after refl
 
@@ -56,6 +56,6 @@ returns g c =
     let names = named (g.D.Drive.meaning c.args.self.now.drive) c.in_ok-used.used _ _ c.moved_slots-moved.ensures c.naming_live-entry.ensures in
     let held = c.move_slots.ensures x (some_of 6 _ _ c.in_ok-used.ensures.found)
     ∙ ap {B = Memory} (λ ss. with_file v c.args.file (Some (with_slots x ss))) c.moved_slots-moved.ensures in
-    call_posted _ tt (page_and_phase _ _ _ c.in_ok-page.ensures c.in_ok-ask_phase.ensures
+    call_posted _ tt (page_and_phase _ _ _ c.in_ok-page.ensures.answer c.in_ok-ask_phase.ensures
     ∙ (needed_some _ _ _ _ c.in_ok-used.ensures.found ∙ asked_yes _ _ _ c.in_ok-ask_settled.ensures))
     (ap₂ entry_bytes c.id.ensures names) posted.answer held posted.after
