@@ -14,7 +14,10 @@ fn make_posts_entries_map_copy_and_label_in_this_order(rt: HostRuntime) -> Resul
     let mut marks = [0u8; 20];
     let mut page = [1u8; 512];
     let notes = noted_make(Cabinet::new(&mut bytes, &mut marks, 0), 1, 2, &mut page)?;
-    assert_eq!(rt; notes.as_slice(), [8u16, 9, 1, 2, 3, 7, 0].as_slice());
+    assert_eq!(rt; notes.count, 7);
+    for (at, wanted) in notes.addresses.iter().zip([8u16, 9, 1, 2, 3, 7, 0].iter()) {
+        assert_eq!(rt; *at, *wanted);
+    }
     assert_eq!(rt; page[511], 0);
     Ok(())
 }

@@ -1,16 +1,29 @@
 // A drive that notes the addresses it was posted to, over any other drive.
-use arrayvec::ArrayVec;
 use drive::device::Drive;
 use drive::fault::Fault;
 use store::making::make;
 
-// The addresses of up to sixteen posts, in their order.
-pub type Notes = ArrayVec<u16, 16>;
+// The addresses of up to sixteen posts, in their order. An array with its count: a list of the kit's is no `Copy`.
+#[derive(Clone, Copy)]
+pub struct Notes {
+    pub addresses: [u16; 16],
+    pub count: usize,
+}
 
 #[derive(Drop)]
 struct Noting<D: Drive> {
     inner: D,
     notes: Notes,
+}
+
+impl Notes {
+    fn add(&mut self, at: u16) {
+        let i = self.count;
+        if i < 16 {
+            self.addresses[i] = at;
+            self.count = i + 1;
+        }
+    }
 }
 
 // Makes a volume, and gives the addresses that were posted to.
@@ -20,9 +33,13 @@ pub fn noted_make<D: Drive + Drop>(
     entries: u16,
     page: &mut [u8],
 ) -> Result<Notes, Fault> {
+    let notes = Notes {
+        addresses: [0; 16],
+        count: 0,
+    };
     let mut noting = Noting {
         inner: drive,
-        notes: ArrayVec::new(),
+        notes,
     };
     make(&mut noting, id, entries, page)?;
     Ok(noting.notes)
@@ -41,8 +58,7 @@ impl<D: Drive> Drive for Noting<D> {
 
     fn post(&mut self, at: u16, page: &[u8]) -> Result<(), Fault> {
         self.inner.post(at, page)?;
-        // A seventeenth address and those after it are not noted.
-        let _ = self.notes.try_push(at);
+        self.notes.add(at);
         Ok(())
     }
 
