@@ -1,7 +1,7 @@
 -- What an accepted call tells.
-use Rattle.std.proofs.Common.{◌≡◌, ℕ, ◌<◌, Bool, true, false, cond, eqb, ltb, List, Ok, Err, refl, ◌∙◌, arith}
+use Rattle.std.proofs.Common.{◌≡◌, ℕ, ◌<◌, Bool, true, false, cond, eqb, ltb, List, Ok, Err, refl, ◌∙◌, arith, length, sym}
 use Rattle.std.proofs.lemmas.Bool.{eqb-true, ltb-true}
-use Rattle.drive.specs.Answers.{Answer, and_then, address_answer, room_answer, post_answer}
+use Rattle.drive.specs.Answers.{Answer, and_then, address_answer, room_answer, post_answer, read_answer, read_page, filled_page}
 use Rattle.drive.specs.Faults.{Refusal}
 use Rattle.drive.specs.Meaning.{Meaning, readable, size, owed, shown, posted, complete, WellFormed}
 use Rattle.drive.proofs.FormedLaws.{posted_inside}
@@ -46,3 +46,7 @@ pub shown_back : (m : Meaning) (a k : ℕ) (bs : List ℕ) → WellFormed m → 
 shown_back m a k bs formed within =
     completing_changes_nothing_shown (posted m a bs) k a (posted_inside m a bs formed within)
     ∙ (a_posted_write_is_shown_and_no_other_address_changes m a a bs).0
+
+-- a page that was read where bs is shown
+pub read_back : (m : Meaning) (a : ℕ) (bs page : List ℕ) → shown m a ≡ readable bs → Ok tt ≡ read_answer m a (length page) → read_page m a page ≡ bs
+read_back m a bs page e ok = λ i. filled_page (sym ok i) (e i) page

@@ -1,5 +1,5 @@
 -- Completing all outstanding writes.
-use Rattle.std.proofs.Common.{◌≡◌, ℕ, zero, suc, List, [], ◌∷◌, take, drop, set, refl, ap, ◌∙◌}
+use Rattle.std.proofs.Common.{◌≡◌, ℕ, zero, suc, List, [], ◌∷◌, take, drop, set, refl, ap, ◌∙◌, sym}
 use Rattle.drive.specs.Meaning.{State, readable, Write, Meaning, settle, posted, complete, calm}
 
 settle_parts : (k : ℕ) (ws : List Write) (ss : List State) → settle (drop k ws) (settle (take k ws) ss) ≡ settle ws ss
@@ -13,3 +13,7 @@ calm_complete k m = λ i. record { settled = settle_parts k m.outstanding m.sett
 -- what a post has left, once all is completed
 pub calm_posted : (m n after : Meaning) (a k : ℕ) (bs : List ℕ) → n ≡ complete k (posted m a bs) → after ≡ calm n → after ≡ calm (posted m a bs)
 calm_posted m n after a k bs e f = f ∙ ap calm e ∙ calm_complete k (posted m a bs)
+
+-- where nothing is outstanding, all is completed
+pub calm_is : (m : Meaning) → m.outstanding ≡ [] → m ≡ calm m
+calm_is m e = λ i. record { settled = settle (sym e i) m.settled; outstanding = e i; wear = m.wear }

@@ -1,7 +1,7 @@
 -- The laws of a drive's meaning.
-use Rattle.std.proofs.Common.{◌≡◌, ℕ, zero, suc, ◌+◌, ◌<◌, ◌≤◌, false, cond, eqb, List, [], ◌∷◌, ◌++◌, length, get_or, take, drop, set, sym, refl, ap, ◌∙◌, subst, inl, inr, ⊎_elim, arith}
+use Rattle.std.proofs.Common.{◌≡◌, ℕ, zero, suc, ◌+◌, ◌<◌, ◌≤◌, false, cond, eqb, List, [], ◌∷◌, ◌++◌, length, get_or, take, drop, set, sym, refl, ap, ◌∙◌, subst, inl, inr, ⊎_elim, arith, zero-le}
 use lib.Seq.{take-nil}
-use Rattle.std.proofs.lemmas.List.{length-set, get_or-set_same, get_or-set_other, length_push, length-drop, set_past, drop-drop, take-append-drop}
+use Rattle.std.proofs.lemmas.List.{length-set, get_or-set_same, get_or-set_other, length_push, length-drop, set_past, drop-drop, take-append-drop, nil_from_length, drop_all}
 use Rattle.std.proofs.lemmas.Bool.{cases_eq, cases_lt, eq-eqb, ne_eqb, cond-true, cond-false, or_parts, eqb-false}
 use Rattle.drive.specs.Cuts.{SomeWrite, Torn, LeftAt}
 use Rattle.drive.specs.Laws.{CompletingChangesNothingShown, CompletingAddsNoImage, ACutKeepsWhatHasNothingOutstanding, APostedWriteIsShownAndNoOtherAddressChanges, WritesCompleteOldestFirst}
@@ -100,3 +100,11 @@ owed_complete m n k e = omega (arith, ap owed e, length-drop k m.outstanding)
 
 pub owed_posted : (m n : Meaning) (a : ℕ) (bs : List ℕ) → n ≡ posted m a bs → owed n ≡ owed m + 1
 owed_posted m n a bs e = ap owed e ∙ length_push m.outstanding (record { at = a; bytes = bs })
+
+-- where nothing is outstanding, nothing is completed
+pub complete_none : (m : Meaning) (k : ℕ) → owed m ≡ 0 → m ≡ complete k m
+complete_none m k e =
+    let with_line : List Write → Meaning = λ ws. record { settled = m.settled; outstanding = ws; wear = m.wear } in
+    let none : with_line [] ≡ complete k (with_line []) =
+    λ i. record { settled = settle (sym (take-nil k) i) m.settled; outstanding = sym (drop_all k [] (zero-le {n = k})) i; wear = m.wear } in
+    subst (λ ws. with_line ws ≡ complete k (with_line ws)) (sym (nil_from_length m.outstanding e)) none

@@ -1,14 +1,19 @@
 -- Laws of the tables in memory: how many places are used, the lowest unused one, the sections' counts.
-use Rattle.std.proofs.Common.{◌≡◌, ℕ, zero, suc, ◌+◌, ◌≤◌, cond, List, [], ◌∷◌, drop, set, Some, None, Option, slice_get, sym, refl, ap, ◌∙◌, arith}
+use Rattle.std.proofs.Common.{◌≡◌, ℕ, zero, suc, ◌+◌, ◌≤◌, cond, List, [], ◌∷◌, drop, set, Some, None, Option, slice_get, sym, refl, ap, ◌∙◌, arith, ◌<◌, length, get_or, Ok, inl, inr}
 use Rattle.std.specs.List.{count_by, position, position_from}
 use Rattle.std.specs.Option.{is_some, is_none}
 use Rattle.std.specs.Prelude.{nat_lt}
 use Rattle.std.proofs.lemmas.Iterator.Adapters.{position_from-zero}
 use Rattle.std.proofs.lemmas.List.Sums.{sum_by-cons}
-use Rattle.model.specs.Memory.{used, unused_from, Memory, with_tickets, with_service}
+use Rattle.model.specs.Memory.{used, unused_from, Memory, with_tickets, with_service, is_address, ticket_holds}
 use Rattle.model.specs.Outcomes.{keep, granted}
 use Rattle.model.specs.Plans.{withdrawing, shortage}
 use Rattle.model.specs.Stock.{counting_free}
+use Rattle.std.proofs.lemmas.List.{get_or_past, get_or-set_same, get_or-set_other, set_past}
+use Rattle.std.proofs.lemmas.Bool.{cases_lt, cases_eq, ne_eqb}
+use Rattle.model.specs.declared.memory.File.{File}
+use Rattle.model.specs.Carried.{asked}
+use Rattle.memory.specs.Bounds.{number_in}
 
 -- ---- used places
 
@@ -68,3 +73,51 @@ withdrawing_some v t a rest first after = ap (withdrawing v t) (first_and_rest v
 
 pub withdrawing_none : (v : Memory) (t : ℕ) → None ≡ slice_get v.service 0 → withdrawing v t v.service ≡ keep (shortage v) v
 withdrawing_none v t none = let e = no_first v.service none in ap (withdrawing v t) e
+
+pub used_emptied : (ts : List (Option ℕ)) (t a : ℕ) → get_or ts t None ≡ Some a → used (set ts t None) + 1 ≡ used ts
+used_emptied [] t a e = let z : ◌≡◌ {A = ℕ} 0 1 = cc in absurd (omega arith)
+used_emptied (None ∷ ts) zero a e = let z : ◌≡◌ {A = ℕ} 0 1 = cc in absurd (omega arith)
+used_emptied (Some b ∷ ts) zero a e = refl
+used_emptied (None ∷ ts) (suc t) a e = used_emptied ts t a e
+used_emptied (Some b ∷ ts) (suc t) a e = let i = used_emptied ts t a e in omega arith
+
+pub unused_is : (n : ℕ) (ts : List (Option ℕ)) (k : ℕ) → Some k ≡ unused_from n ts → (j : ℕ) × (k ≡ n + j) × (j < length ts) × (get_or ts j None ≡ None)
+unused_is n [] k e = let z : ◌≡◌ {A = ℕ} 0 1 = cc in absurd (omega arith)
+unused_is n (None ∷ ts) k e = (0, (let z : k ≡ n = cc in omega arith), omega arith, refl)
+unused_is n (Some a ∷ ts) k e = let r = unused_is (n + 1) ts k e in (suc r.0, omega arith, omega arith, r.3)
+
+pub lowest_is : (ts : List (Option ℕ)) (k : ℕ) → Some k ≡ unused_from 0 ts → (k < length ts) × (get_or ts k None ≡ None)
+lowest_is ts k e =
+    let r = unused_is 0 ts k e in
+    let z : k ≡ r.0 = omega arith in
+    (omega arith, rw z r.3)
+
+held_is : (o : Option ℕ) (a : ℕ) → Ok tt ≡ asked 11 (is_address o a) → o ≡ Some a
+held_is None a e = let z : ◌≡◌ {A = ℕ} 0 1 = cc in absurd (omega arith)
+held_is (Some b) a e =
+    elim (cases_eq b a) [
+      | inl h ↦ ap Some h
+      | inr h ↦ let n = ap (asked 11) (ne_eqb b a h) in let z : ◌≡◌ {A = ℕ} 0 1 = cc in absurd (omega arith)
+    ]
+
+pub ticket_is : (v : Memory) (t a : ℕ) → Ok tt ≡ asked 11 (ticket_holds v t a) → get_or v.tickets t None ≡ Some a
+ticket_is v t a e = held_is (get_or v.tickets t None) a e
+
+pub place_within : {X : Type 0} (ts : List (Option X)) (t : ℕ) (a : X) → get_or ts t None ≡ Some a → t < length ts
+place_within ts t a e =
+    elim (cases_lt t (length ts)) [
+      | inl h ↦ h
+      | inr h ↦ let q = get_or_past ts t None h in let z : ◌≡◌ {A = ℕ} 0 1 = cc in absurd (omega arith)
+    ]
+
+pub numbered_set : (fs : List (Option File)) (i : ℕ) (f : Option File) → ((k : ℕ) → number_in (get_or fs k None) < 3968) → number_in f < 3968
+    → (k : ℕ) → number_in (get_or (set fs i f) k None) < 3968
+numbered_set fs i f all here k =
+    elim (cases_eq k i) [
+      | inl e ↦
+          elim (cases_lt i (length fs)) [
+            | inl h ↦ rw (e, get_or-set_same fs i f None h) here
+            | inr h ↦ rw (set_past fs i f h) (all k)
+          ]
+      | inr ne ↦ rw (get_or-set_other fs i k f None ne) (all k)
+    ]

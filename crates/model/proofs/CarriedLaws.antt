@@ -1,7 +1,7 @@
 -- A call that comes to its plan is carried out, and the steps of a plan as its questions are answered.
 use Rattle.std.proofs.Common.{◌≡◌, ℕ, Bool, true, false, List, length, Some, None, Ok, Err, Option, Result, refl, ap, ◌∙◌, arith}
 use Rattle.drive.specs.Answers.{Answer, post_answer}
-use Rattle.drive.specs.Faults.{Refusal}
+use Rattle.drive.specs.Faults.{Refusal, refusal, no_record}
 use Rattle.drive.specs.Meaning.{Meaning, Write, owed, posted, complete}
 use Rattle.model.specs.Memory.{Memory}
 use Rattle.model.specs.Outcomes.{Reply, Outcome, refuse, accept, ask, need, need_of, if_accepted, Rules, post, keep}
@@ -112,3 +112,13 @@ carried_attach g m u e =
       reached_at_first = rw e at_first;
       reached_after_a_cut = λ o h h' v d r w i. rw e (by_cut h h' v d m r w i);
     }
+
+pub found_some : {X : Type 0} (n : ℕ) (q : Option X) (k : X → Outcome) (x : X) → Some x ≡ q → need n q k ≡ k x
+unfolding need
+found_some n None k x e = let z : ◌≡◌ {A = ℕ} 0 1 = cc in absurd (omega arith)
+found_some n (Some y) k x e = ap k (cc)
+
+pub found_none : {X : Type 0} (n : ℕ) (q : Option X) (k : X → Outcome) → None ≡ q → need n q k ≡ refuse (refusal n no_record)
+unfolding need
+found_none n None k e = refl
+found_none n (Some y) k e = let z : ◌≡◌ {A = ℕ} 0 1 = cc in absurd (omega arith)

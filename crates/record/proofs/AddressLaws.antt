@@ -15,7 +15,7 @@ stands_when m g a rest r h w e = rw (ne_eqb m 0 h, w) (ap not e)
 
 -- ---- the slots, one by one
 
-rest_of : (s : List ℕ) (p : ℕ) → length s ≡ 64 → take (64 - (p + 1)) (drop (p + 1) s) ≡ drop (p + 1) s
+pub rest_of : (s : List ℕ) (p : ℕ) → length s ≡ 64 → take (64 - (p + 1)) (drop (p + 1) s) ≡ drop (p + 1) s
 rest_of s p l = between_to_end s (p + 1) 64 (omega arith)
 
 -- the slot p of s is empty or holds an address that may stand before the slots after it

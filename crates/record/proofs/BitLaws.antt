@@ -4,7 +4,7 @@ use Rattle.std.specs.List.{range_with_len}
 use Rattle.std.proofs.lemmas.Nat.{shr-shr, shr_split, mod_below, pow_pos}
 use Rattle.std.proofs.lemmas.List.FromFn.{length-map-range_with_len, get_or-map-range_with_len}
 use Rattle.std.proofs.ByRecursion.{All-get_or, All-from_get_or, All-set}
-use Rattle.std.proofs.lemmas.List.{ext_get_or, get_or_past, get_or-set_same, get_or-set_other, length-set, length-replicate, get_or-replicate}
+use Rattle.std.proofs.lemmas.List.{ext_get_or, get_or_past, get_or-set_same, get_or-set_other, length-set, length-replicate, get_or-replicate, set_past}
 use Rattle.std.proofs.lemmas.Bool.{eq-eqb, ne_eqb, eqb-true, eqb-false, cases_eq, cases_lt, lt-ltb, le-ltb}
 use Rattle.record.specs.Sections.{digit, with_digit, weight, bit, marked, packed, bits_of, none_free}
 use Rattle.record.specs.Laws.{FittingBits, AChangedBitChangesNoOther, BitsAreToldByTheFreeNumbers}
@@ -177,3 +177,6 @@ pub on_all : (f : ℕ → Bool) (bits : List ℕ) → OnBelow f 3968 bits → bi
 on_all f bits on =
     bits_are_told_by_the_free_numbers bits (bits_of f) on.fit (bits_of_fit f)
     (λ r h. on.each r h ∙ (rw (lt-ltb r 3968 h) (sym (bit_bits_of f r h))))
+
+pub marked_past : (bits : List ℕ) (r b : ℕ) → length bits ≤ r / 32 → bits ≡ marked bits r b
+marked_past bits r b h = sym (set_past bits (r / 32) _ h)

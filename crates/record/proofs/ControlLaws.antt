@@ -110,3 +110,7 @@ whole_is_control start id p h t =
     let s : words p ≡ word p 0 ∷ word p 1 ∷ body = two_more (words p) (omega arith) in
     let c : check start (words p) ≡ check start (id ∷ 0 ∷ body) = ap (check start) s ∙ (check_any start (word p 0) (word p 1) 0 body ∙ ap (λ z. check start (z ∷ 0 ∷ body)) x) in
     sym (unwords_words p h.1 (omega arith)) ∙ ap unwords (s ∙ ap₂ (λ u v. u ∷ v ∷ body) x (y ∙ c))
+
+-- the words of a control record
+pub control_words : ℕ → ℕ → List ℕ → List ℕ
+control_words start id body = id ∷ check start (id ∷ 0 ∷ body) ∷ body

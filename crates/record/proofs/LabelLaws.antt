@@ -17,6 +17,7 @@ use Rattle.record.specs.Laws.{FittingLabel, AWrittenLabelIsBelieved, ABelievedLa
 use Rattle.record.proofs.WordLaws.{length_words, words_take, words_drop}
 use Rattle.record.proofs.ControlLaws.{Fit, words_control, whole_control, whole_is_control, words_fit}
 use Rattle.record.proofs.LayoutLaws.{all_zeros, zeros_to_end, some_parts}
+use Rattle.std.proofs.lemmas.Bool.Decides.{same_from_decides}
 
 pub same_decides : (xs ys : List ℕ) → Decides (same xs ys) (xs ≡ ys)
 same_decides xs ys = compares_Decides same (search rules) xs ys
@@ -194,3 +195,6 @@ a_believed_label_is_the_record_of_what_is_read start t p l hs h ht s =
       subst FittingLabel e (read_fits t p h ht o),
     ) in
     all l b.1
+
+pub same_when : (xs ys : List ℕ) (r : Bool) → Decides r (xs ≡ ys) → r ≡ same xs ys
+same_when xs ys r h = same_from_decides r (same xs ys) h (same_decides xs ys)

@@ -1,12 +1,12 @@
 -- Laws of words and of a record's bytes.
-use Rattle.std.proofs.Common.{◌≡◌, ℕ, zero, suc, ◌+◌, ◌*◌, ◌/◌, ◌%◌, ◌^◌, ◌<◌, ◌≤◌, ◌&&◌, eqb, List, [], ◌∷◌, ◌++◌, length, get_or, take, drop, set, refl, subst, ap, ◌∙◌, ap₂, suc-add, div-add-mod', arith}
+use Rattle.std.proofs.Common.{◌≡◌, ℕ, zero, suc, ◌+◌, ◌*◌, ◌/◌, ◌%◌, ◌^◌, ◌<◌, ◌≤◌, ◌&&◌, eqb, List, [], ◌∷◌, ◌++◌, length, get_or, take, drop, set, refl, subst, ap, ◌∙◌, ap₂, suc-add, div-add-mod', arith, ◌-◌, ◌≢◌}
 use native.Mathlib.Nat.{div-div-eq-div-mul}
 use Rattle.std.specs.List.{range_with_len, list_all, AllByRecursion}
 use Rattle.std.specs.Array.{IsFromFnResult, IsFromFnResultFrom}
 use Rattle.std.specs.Fn.{Called}
 use denote.Param.Members.{Mut}
 use Rattle.std.proofs.ByRecursion.{All-get_or}
-use Rattle.std.proofs.lemmas.List.{drop_more}
+use Rattle.std.proofs.lemmas.List.{drop_more, get_or-set_same, get_or-set_other, length-append, length-take, length-drop}
 use Rattle.record.specs.Words.{be, be_bytes, word, put, words, unwords, zeros}
 
 quad : (j : ℕ) → 4 * suc j ≡ suc (suc (suc (suc (4 * j))))
@@ -127,3 +127,24 @@ word_fits p i h l =
     let c = All-get_or (λ b. b < 256) p (4 * i + 2) 0 (omega arith) h in
     let d = All-get_or (λ b. b < 256) p (4 * i + 3) 0 (omega arith) h in
     let e = get_d_words p i l in omega arith
+
+pub words_put : (p : List ℕ) (i w : ℕ) → 4 * i + 4 ≤ length p → w < 2 ^ 32 → words (put p i w) ≡ set (words p) i w
+words_put [] i w h fit = absurd (omega arith)
+words_put (a ∷ []) i w h fit = absurd (omega arith)
+words_put (a ∷ b ∷ []) i w h fit = absurd (omega arith)
+words_put (a ∷ b ∷ c ∷ []) i w h fit = absurd (omega arith)
+words_put (a ∷ b ∷ c ∷ d ∷ p) zero w h fit = ap (λ x. x ∷ words p) (be_of_bytes w fit)
+words_put (a ∷ b ∷ c ∷ d ∷ p) (suc i) w h fit =
+    rw put_more (ap (λ x. be a b c d ∷ x) (words_put p i w (omega arith) fit))
+
+pub length_put : (p : List ℕ) (i w : ℕ) → 4 * i + 4 ≤ length p → length (put p i w) ≡ length p
+length_put p i w h = simp (length-append, length-take, length-drop) (omega arith)
+
+-- the word that was put is read again, and any other word is as it was
+pub word_put_same : (p : List ℕ) (i w : ℕ) → 4 * i + 4 ≤ length p → w < 2 ^ 32 → word (put p i w) i ≡ w
+word_put_same p i w h fit =
+    let n = length_words p in
+    let long : i < length (words p) = omega arith in rw (words_put p i w h fit) (get_or-set_same (words p) i w 0 long)
+
+pub word_put_other : (p : List ℕ) (i j w : ℕ) → 4 * i + 4 ≤ length p → w < 2 ^ 32 → j ≢ i → word (put p i w) j ≡ word p j
+word_put_other p i j w h fit ne = rw (words_put p i w h fit) (get_or-set_other (words p) i j w 0 ne)

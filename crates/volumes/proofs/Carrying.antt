@@ -1,21 +1,24 @@
 -- Steps that several calls share on the way to their plans.
-use Rattle.std.proofs.Common.{◌≡◌, ℕ, ◌<◌, Bool, eqb, List, length, get_or, Ok, Err, IsErrAnd, Option, Result, refl, ap, ◌∙◌, ap₂, inl, inr, arith, w8, Fits}
+use Rattle.std.proofs.Common.{◌≡◌, ℕ, ◌<◌, Bool, eqb, List, length, get_or, Ok, Err, IsErrAnd, Option, Result, refl, ap, ◌∙◌, ap₂, inl, inr, arith, w8, Fits, cond, ltb, Some, None}
 use Rattle.std.specs.List.{AllByRecursion}
 use Rattle.std.proofs.ByRecursion.{All-from_get_or}
-use Rattle.std.proofs.lemmas.Bool.{cases_eq, ne_eqb}
+use Rattle.std.proofs.lemmas.Bool.{cases_eq, ne_eqb, cases_lt, le-ltb}
 use Rattle.drive.specs.declared.fault.Fault.{Fault}
 use Rattle.drive.specs.Answers.{post_answer}
-use Rattle.drive.specs.Faults.{Refusal, told}
+use Rattle.drive.specs.Faults.{Refusal, told, refusal, no_record}
 use Rattle.drive.specs.Meaning.{Write, posted, complete}
 use Rattle.record.specs.declared.entry.Entry.{Entry}
 use Rattle.memory.specs.View.{came_to, UnlessAcceptedSame}
 use Rattle.model.specs.Calls.{Call, plan, Volume}
-use Rattle.model.specs.Carried.{CarriesOut, ComesTo, asked, or_refused_at, replied}
-use Rattle.model.specs.Plans.{entry_when}
+use Rattle.model.specs.Carried.{CarriesOut, ComesTo, asked, or_refused_at, replied, or_refused}
+use Rattle.model.specs.Plans.{entry_when, slot_of, and_then}
 use Rattle.model.specs.Histories.{Fitting}
-use Rattle.model.specs.Memory.{Memory}
+use Rattle.model.specs.Memory.{Memory, held}
 use Rattle.model.specs.Outcomes.{Reply, Outcome, refuse, ask, Rules, post, keep}
 use Rattle.model.proofs.CarriedLaws.{asked_yes, carried, refusing, keeping, posting_page, post_refused_page}
+use Rattle.model.specs.declared.memory.File.{File}
+use Rattle.model.specs.declared.memory.Slot.{Slot}
+use Rattle.model.specs.declared.memory.Slot.TheVariants.{Empty}
 
 -- a volume is as it was, where its drive and its memory are
 pub volume_same : {v u : Volume} → u.drive ≡ v.drive → u.memory ≡ v.memory → u ≡ v
@@ -112,3 +115,23 @@ pub call_posted : {g : Rules} {c : Call} {v u : Volume} {r : Reply} {x : Memory}
     → CarriesOut g c v u (Ok r)
 call_posted w fits is holds agreed held after =
     carried _ _ _ _ _ fits (posting_page _ _ _ _ _ _ _ w _ after.0 is holds agreed refl held after.1)
+
+-- a slot of a file is below 64
+pub slot_within : {X : Type 0} (n : ℕ) (x : File) (p : ℕ) (k : Slot → Option X) (y : X) → Ok y ≡ or_refused n (and_then (slot_of x p) k) → p < 64
+slot_within n x p k y e =
+    elim (cases_lt p 64) [
+      | inl h ↦ h
+      | inr h ↦
+          let past : or_refused n (and_then (slot_of x p) k) ≡ Err (refusal n no_record) = ap (λ b. or_refused n (and_then (cond b (Some (get_or x.slots p Empty)) None) k)) (le-ltb p 64 h) in
+          let z : ◌≡◌ {A = ℕ} 0 1 = cc in absurd (omega arith)
+    ]
+
+-- there is room for one more address, where question 13 is answered yes
+pub room_within : (v : Memory) → Ok tt ≡ asked 13 (ltb (held v) 32) → held v < 32
+room_within v e =
+    elim (cases_lt (held v) 32) [
+      | inl h ↦ h
+      | inr h ↦
+          let none = ap (asked 13) (le-ltb (held v) 32 h) in
+          let z : ◌≡◌ {A = ℕ} 0 1 = cc in absurd (omega arith)
+    ]

@@ -1,12 +1,12 @@
 -- What the calls on the map come to.
-use Rattle.std.proofs.Common.{MatchOption, ◌≡◌, ℕ, ◌-◌, ◌<◌, ◌≤◌, Bool, true, false, eqb, List, [], ◌∷◌, ◌++◌, length, Some, None, Ok, Err, Option, slice_get, sym, refl, ap, ◌∙◌, arith}
+use Rattle.std.proofs.Common.{MatchOption, ◌≡◌, ℕ, ◌-◌, ◌<◌, ◌≤◌, Bool, true, false, eqb, List, [], ◌∷◌, ◌++◌, length, Some, None, Ok, Err, Option, slice_get, sym, refl, ap, ◌∙◌, arith, Result}
 use Rattle.std.proofs.lemmas.Bool.{lt-ltb, le-ltb, cond-true, cond-false}
 use Rattle.drive.specs.Answers.{and_then}
 use Rattle.drive.specs.Faults.{Refusal}
 use Rattle.drive.specs.Meaning.{Meaning}
 use Rattle.record.specs.declared.label.Label.{Label}
 use Rattle.record.specs.declared.label.LabelState.TheVariants.{InUse}
-use Rattle.model.specs.Carried.{asked}
+use Rattle.model.specs.Carried.{asked, ComesTo}
 use Rattle.model.specs.Memory.{Memory, used}
 use Rattle.model.specs.Outcomes.{Reply, section, busy, quiet, Outcome, refuse, ask, Rules, keep}
 use Rattle.model.specs.Plans.{kept_label, is_open, is_idle, write_section, take_from, taking, give_oldest, giving, balance_plan}
@@ -15,6 +15,7 @@ use Rattle.model.specs.Stock.{cover, lowest, all_marked, given, staying, countin
 use Rattle.model.proofs.CarriedLaws.{asked_yes, asked_no}
 use Rattle.volumes.specs.Volumes.{section_or}
 use Rattle.volumes.proofs.Carrying.{page_and_phase}
+use Rattle.model.specs.Calls.{Volume}
 
 -- ---- how much is held
 
@@ -101,3 +102,7 @@ pub section_reply : {X : Type 0} (reply : X → Reply) (otherwise : X) (of : ℕ
     → reply otherwise ≡ r → ((k : ℕ) → reply (of k) ≡ section k) → reply x ≡ section_or r o
 section_reply reply otherwise of r None x e none some = ap reply e ∙ none
 section_reply reply otherwise of r (Some k) x e none some = ap reply e ∙ some k
+
+-- what comes to an outcome comes to the plan that leads there
+pub at_plan : (p o : Outcome) (v u : Volume) (a b : Result Reply Refusal) → p ≡ o → b ≡ a → ComesTo o v u a → ComesTo p v u b
+at_plan p o v u a b leads tells done = rw (leads, tells) done
