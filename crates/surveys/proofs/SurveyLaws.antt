@@ -1,9 +1,9 @@
 -- Counting what shows.
 use mir.Val.{bool_byte}
 use Rattle.std.proofs.lemmas.Bool.{cases_Bool}
-use Rattle.std.proofs.Common.{true, false, Some, None, Ok, Err, Result, refl, inl, inr, ◌≡◌, ℕ, ◌+◌, ◌*◌, ◌≤◌, Bool, cond, eqb, [], ◌∷◌, ◌++◌, sum_by, Option, sym, ap, ◌∙◌, arith}
+use Rattle.std.proofs.Common.{true, false, Some, None, Ok, Err, Result, refl, inl, inr, ◌≡◌, ℕ, ◌+◌, ◌*◌, ◌<◌, ◌≤◌, Bool, cond, not, eqb, List, [], ◌∷◌, ◌++◌, length, get_or, take, sum_by, Option, sym, ap, ◌∙◌, arith}
 use Rattle.std.specs.List.{range_with_len}
-use Rattle.std.proofs.lemmas.List.Sums.{sum_by_push}
+use Rattle.std.proofs.lemmas.List.Sums.{sum_by_push, sum_by_more}
 use Rattle.drive.specs.Meaning.{Meaning}
 use Rattle.record.specs.declared.label.Label.{Label}
 use Rattle.record.specs.declared.entry.Entry.{Entry}
@@ -11,7 +11,7 @@ use Rattle.model.proofs.NewLaws.{counting_push}
 use Rattle.drive.specs.Faults.{Refusal, refusal, no_record}
 use Rattle.model.specs.Carried.{asked, or_refused}
 use Rattle.surveys.specs.declared.survey.Survey.{Survey}
-use Rattle.surveys.specs.Surveys.{entry_found, entries_that, is_free_entry, named_by, pages_named, survey_of, found}
+use Rattle.surveys.specs.Surveys.{entry_found, entries_that, addresses_in, is_free_entry, named_by, pages_named, survey_of, found}
 use Rattle.std.specs.Option.{is_some}
 
 -- one entry more
@@ -31,6 +31,12 @@ named_next m l i n o k is e f =
     let z : 0 + i ≡ i = omega arith in
     f ∙ ((λ j. e j + named_by (is j))
     ∙ sym (ap (sum_by p) (counting_push 0 i ∙ ap (λ x. range_with_len 0 i ++ (x ∷ [])) z) ∙ sum_by_push p (range_with_len 0 i) i))
+
+-- one slot more
+pub address_more : (xs : List ℕ) (i n k : ℕ) → i < length xs → n ≡ addresses_in (take i xs)
+    → k ≡ n + cond (not (eqb (get_or xs i 0) 0)) 1 0 → k ≡ addresses_in (take (i + 1) xs)
+address_more xs i n k lt e f =
+    f ∙ (ap (λ x. x + cond (not (eqb (get_or xs i 0) 0)) 1 0) e ∙ sym (sum_by_more (λ a. cond (not (eqb a 0)) 1 0) xs i 0 lt))
 
 -- the first i entries are counted
 pub record Counted (m : Meaning) (l : Label) (free sound named i : ℕ) : Type 0 where
